@@ -1,0 +1,29 @@
+-- The grid, of every width and height, has the laws that demand 3 rests on.
+-- Assumes nothing.
+use Prim.Native.Nat.{ℕ}
+use mathlib.Core.Path.{refl}
+use Rattle.network.specs.declared.Kind.the-variants.{Waiting, B}
+use Rattle.network.specs.Net.{at, NetLaws}
+use Rattle.mesh.specs.Mesh.{mesh}
+use Rattle.mesh.proofs.Metric.{triangle}
+use Rattle.mesh.proofs.Hops.{hop-on-grid, hop-one, hop-nearer, hop-settled, hop-queued, turn-down, turn-settled, out-there, unknown-never}
+use Rattle.mesh.proofs.Onward.{waiting-goes, A-goes, B-goes}
+
+pub mesh-laws : (width height : ℕ) → NetLaws (mesh width height)
+mesh-laws width height = record {
+  triangle = triangle;
+  rule = λ h d gh gd. record {
+    hop-valid = λ k c n e. hop-on-grid h d k c n e width height gh gd;
+    hop-one = hop-one h d;
+    hop-nearer = hop-nearer h d;
+    hop-settled = λ c n s e. hop-settled h d B c n e s;
+    hop-queued = λ c n e. hop-queued h d Waiting c n e refl;
+    turn-down = turn-down h d;
+    turn-settled = λ k c e. turn-settled h d k B c e refl;
+    out-there = out-there h d;
+    unknown-never = λ k c. unknown-never (at h k) d c;
+    waiting-goes = waiting-goes h d;
+    A-goes = A-goes h d;
+    B-goes = B-goes h d;
+  };
+}

@@ -1,0 +1,5 @@
+pub mod Axis
+pub mod Grid
+pub mod Rule
+pub mod Published
+pub mod Mesh

@@ -1,0 +1,22 @@
+-- The grid as a network.
+-- Assumes nothing.
+use Prim.Native.Nat.{ℕ, _+_}
+use mathlib.Core.Bool.{Bool, _&&_}
+use lib.Dec.{leb}
+use Rattle.network.specs.Net.{Net}
+use Rattle.mesh.specs.Grid.{xOf, yOf, onGrid, distanceOf}
+use Rattle.mesh.specs.Rule.{signsOf, settledBy, ruled}
+
+abbrev pub isCode : ℕ → Bool
+isCode code = leb 1 code && leb code 7
+
+-- level: source 003, section IV, "the level of (x, y) is x + y"
+abbrev pub mesh : ℕ → ℕ → Net
+mesh width height = record {
+  valid = onGrid width height;
+  distance = distanceOf;
+  level = λ n. xOf n + yOf n;
+  settled = λ here destination. settledBy (signsOf here destination);
+  known = isCode;
+  rule = ruled;
+}

@@ -1,0 +1,90 @@
+-- Document 01's rule of moves, row by row of its table. Here (x, y), destination (z, w); the conditions are the signs of z - x and w - y.
+-- Assumes nothing.
+use Prim.Native.Nat.{ℕ, _+_, _-_, _≤_, _<_}
+use mathlib.Core.Bool.{Bool, true, false, not, cond, _&&_, _||_}
+use lib.Dec.{eqb}
+use Rattle.network.specs.declared.Kind.{Kind}
+use Rattle.network.specs.declared.Kind.the-variants.{Waiting, A, B}
+use Rattle.network.specs.declared.Place.{Place}
+use Rattle.network.specs.declared.Lead.{Lead}
+use Rattle.network.specs.declared.Lead.the-variants.{Hop, Turn, Out, NotOffered}
+use Rattle.mesh.specs.declared.Step.{Step}
+use Rattle.mesh.specs.declared.Step.the-variants.{Enter, Right, Left, Up, Down, Change, Deliver, Unknown}
+use Rattle.mesh.specs.declared.Signs.{Signs}
+use Rattle.mesh.specs.Axis.{rises, falls}
+use Rattle.mesh.specs.Grid.{dxOf, dyOf}
+
+-- the first column
+unfoldable pub stepOf : ℕ → Step
+stepOf code =
+    cond (eqb code 1) Enter
+    (cond (eqb code 2) Right
+    (cond (eqb code 3) Left
+    (cond (eqb code 4) Up
+    (cond (eqb code 5) Down
+    (cond (eqb code 6) Change
+    (cond (eqb code 7) Deliver
+    Unknown))))))
+
+-- z > x, z < x, w > y, w < y
+unfoldable pub signsOf : ℕ → ℕ → Signs
+signsOf here destination = record {
+  right = rises (dxOf here destination);
+  left = falls (dxOf here destination);
+  up = rises (dyOf here destination);
+  down = falls (dyOf here destination);
+}
+
+-- z ≤ x and w ≤ y
+abbrev pub settledBy : Signs → Bool
+settledBy s = not (s .right) && not (s .up)
+
+-- z = x and w = y
+abbrev pub arrivedBy : Signs → Bool
+arrivedBy s = (not (s .right) && not (s .left)) && (not (s .up) && not (s .down))
+
+-- a condition for each queue kind
+abbrev pub inEach : Bool → Bool → Bool → Kind → Bool
+inEach waiting a b Waiting = waiting
+inEach waiting a b A = a
+inEach waiting a b B = b
+
+-- the third column: when a step is offered from waiting, in A, in B
+abbrev pub offers : Step → Signs → Kind → Bool
+offers Enter s = inEach true false false
+offers Right s = inEach false (s .right) false
+offers Left s = inEach false (s .left && s .up) (s .left)
+offers Up s = inEach false (s .up) false
+offers Down s = inEach false (s .down && s .right) (s .down)
+offers Change s = inEach false (settledBy s) false
+offers Deliver s = inEach false (arrivedBy s) (arrivedBy s)
+offers Unknown s = inEach false false false
+
+-- the second column: where a step leads from a node
+abbrev pub leads : Step → ℕ → Signs → Lead
+leads Enter n s = Turn (cond (s .right || s .up) A B)
+leads Right n s = Hop (n + 1)
+leads Left n s = Hop (n - 1)
+leads Up n s = Hop (n + 16)
+leads Down n s = Hop (n - 16)
+leads Change n s = Turn B
+leads Deliver n s = Out
+leads Unknown n s = NotOffered
+
+-- a hop's target is an address byte
+abbrev pub Room : Step → ℕ → Type 0
+Room Enter n = Unit {0}
+Room Right n = n + 1 < 256
+Room Left n = 1 ≤ n
+Room Up n = n + 16 < 256
+Room Down n = 16 ≤ n
+Room Change n = Unit {0}
+Room Deliver n = Unit {0}
+Room Unknown n = Unit {0}
+
+abbrev pub ruledBy : Step → Place → Signs → Lead
+ruledBy step p s = cond (offers step s (p .kind)) (leads step (p .node) s) NotOffered
+
+-- the rule: where a code leads a packet from its place, for its destination
+unfoldable pub ruled : Place → ℕ → ℕ → Lead
+ruled p destination code = ruledBy (stepOf code) p (signsOf (p .node) destination)

@@ -1,0 +1,7 @@
+pub mod Tests
+pub mod Lists
+pub mod Course
+pub mod Kept
+pub mod Progress
+pub mod Drain
+pub mod Slots

@@ -1,0 +1,9 @@
+pub mod Lists
+pub mod Net
+pub mod Packet
+pub mod Contents
+pub mod View
+pub mod Run
+pub mod Machine
+pub mod Table
+pub mod Drain
