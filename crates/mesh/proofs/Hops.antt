@@ -68,10 +68,10 @@ module _ (h d n : ℕ) where
   hopping-settled s (along m e) = let t = settled-means h d s in settled-by n d (omega arith, nearer-above _ _ _ (t .1) m)
 
 module _ (width height : ℕ) where
-  on-means : (n : ℕ) → onGrid width height n ≡ true → (xOf n < width) × (yOf n < height)
+  pub on-means : (n : ℕ) → onGrid width height n ≡ true → (xOf n < width) × (yOf n < height)
   on-means n e = (ltb-true _ _ (and-l _ _ e), ltb-true _ _ (and-r (ltb (xOf n) width) _ e))
 
-  on-by : (n : ℕ) → xOf n < width → yOf n < height → onGrid width height n ≡ true
+  pub on-by : (n : ℕ) → xOf n < width → yOf n < height → onGrid width height n ≡ true
   on-by n hx hy = rw (lt-ltb _ _ hx, lt-ltb _ _ hy)
 
   hopping-on-grid : (h d n : ℕ) → onGrid width height h ≡ true → onGrid width height d ≡ true → Hopping h d n → onGrid width height n ≡ true

@@ -50,6 +50,14 @@ module _ (a b : ℕ) where
   unfolding distanceOf
   distance-is = ap₂ _+_ (natAbs-is (xOf a) (xOf b)) (natAbs-is (yOf a) (yOf b))
 
+  -- 15 along each axis
+  pub distance-most : a < 256 → b < 256 → distanceOf a b ≤ 30
+  unfolding distanceOf
+  distance-most ha hb =
+      let x = difference-small (xOf a) (xOf b) (omega arith) (omega arith) in
+      let y = difference-small (yOf a) (yOf b) (omega arith) (omega arith) in
+      omega arith
+
 pub distance-sym : (a b : ℕ) → distanceOf a b ≡ distanceOf b a
 distance-sym a b = omega (arith, distance-is a b, distance-is b a)
 

@@ -3,8 +3,9 @@ use network::Kind;
 use network::Lead;
 use network::Place;
 ghost use mathlib.Core.Path.{_≡_};
-ghost use Rattle.mesh.specs.Grid.{distanceOf};
+ghost use Rattle.mesh.specs.Grid.{onGrid, distanceOf};
 ghost use Rattle.mesh.specs.Rule.{stepOf, signsOf, settledBy, inEach, offers, Room, leads, ruled};
+ghost use Rattle.mesh.specs.Mesh.{isCode};
 
 mod axis;
 
@@ -32,11 +33,33 @@ pub struct Signs {
     pub down: bool,
 }
 
+// Is there such a node on a grid of that width and height?
+pub fn on_grid(width: usize, height: usize, node: u8) -> bool
+    ensures { λ r. ⌜ r ≡ onGrid width height node ⌝ }
+{
+    let x = (node % 16) as usize;
+    let y = (node / 16) as usize;
+    if width <= x {
+        return false;
+    }
+    y < height
+}
+
 pub fn distance(a: u8, b: u8) -> u32
     ensures { λ r. ⌜ r ≡ distanceOf a b ⌝ }
 {
     axis::magnitude(axis::difference(a % 16, b % 16))
         + axis::magnitude(axis::difference(a / 16, b / 16))
+}
+
+// Is there such a code?
+pub fn is_code(code: u32) -> bool
+    ensures { λ r. ⌜ r ≡ isCode code ⌝ }
+{
+    if code < 1 {
+        return false;
+    }
+    code <= 7
 }
 
 fn step_of(code: u32) -> Step

@@ -1,0 +1,118 @@
+// Leaves on bytes: one slot of 16 bytes in a table of slots, lent on as a part of the caller's slice.
+ghost use mathlib.Core.Path.{_≡_};
+ghost use Prim.Native.Nat.{_+_, _*_, _≤_, _<_};
+ghost use lib.ListN.{length, getD, replicate};
+ghost use Rattle.slots.specs.Bytes.{le32};
+ghost use Rattle.slots.specs.Slots.{slotAt, withSlot, emptySlot, zeros};
+
+pub mod number;
+
+pub fn wide(x: u8) -> usize
+    ensures { λ r. ⌜ r ≡ x ⌝ }
+{
+    x as usize
+}
+
+// Is every byte zero?
+pub fn all_zero(p: &[u8]) -> bool
+    ensures { λ r. ⌜ r ≡ zeros (now (p .entry)) ⌝ }
+{
+    let mut i = 0;
+    while i < p.len() {
+        if p[i] != 0 {
+            return false;
+        }
+        i += 1;
+    }
+    true
+}
+
+// Makes every byte zero.
+pub fn zero_all(t: &mut [u8])
+    ensures { λ _. ⌜ now (t .exit) ≡ replicate (length (now (t .entry))) 0 ⌝ }
+{
+    let mut i = 0;
+    while i < t.len() {
+        t[i] = 0;
+        i += 1;
+    }
+}
+
+// The 16 bytes, by value.
+fn copy16(p: &[u8]) -> [u8; 16]
+    requires { ⌜ length (now p) ≡ 16 ⌝ }
+    ensures { λ r. ⌜ r ≡ now (p .entry) ⌝ }
+{
+    let mut v = [0u8; 16];
+    let mut i = 0;
+    while i < 16 {
+        v[i] = p[i];
+        i += 1;
+    }
+    v
+}
+
+// Makes the 16 bytes those of `v`.
+fn fill16(p: &mut [u8], v: [u8; 16])
+    requires { ⌜ length (now p) ≡ 16 ⌝ }
+    ensures { λ _. ⌜ now (p .exit) ≡ v ⌝ }
+{
+    let mut done = 0;
+    while done < 16 {
+        p[done] = v[done];
+        done += 1;
+    }
+}
+
+// The bytes of slot `k`, by value.
+pub fn read_slot(t: &[u8], k: usize) -> [u8; 16]
+    requires { ⌜ 16 * k + 16 ≤ length (now t) ⌝ }
+    ensures { λ r. ⌜ r ≡ slotAt (now (t .entry)) k ⌝ }
+{
+    let a = 16 * k;
+    copy16(&t[a..a + 16])
+}
+
+// Is slot `k` 16 zeros?
+pub fn slot_empty(t: &[u8], k: usize) -> bool
+    requires { ⌜ 16 * k + 16 ≤ length (now t) ⌝ }
+    ensures { λ r. ⌜ r ≡ zeros (slotAt (now (t .entry)) k) ⌝ }
+{
+    let a = 16 * k;
+    all_zero(&t[a..a + 16])
+}
+
+// Byte `i` of slot `k`.
+pub fn slot_byte(t: &[u8], k: usize, i: usize) -> u8
+    requires { ⌜ 16 * k + 16 ≤ length (now t) ⌝ }
+    requires { ⌜ i < 16 ⌝ }
+    ensures { λ r. ⌜ r ≡ getD (slotAt (now (t .entry)) k) i 0 ⌝ }
+{
+    t[16 * k + i]
+}
+
+// The serial number in slot `k`: its bytes 4 to 7.
+pub fn slot_serial(t: &[u8], k: usize) -> u32
+    requires { ⌜ 16 * k + 16 ≤ length (now t) ⌝ }
+    ensures { λ r. ⌜ r ≡ le32 (slotAt (now (t .entry)) k) 4 ⌝ }
+{
+    number::get32(t, 16 * k + 4)
+}
+
+// Makes slot `k` the bytes `v`.
+pub fn write_slot(t: &mut [u8], k: usize, v: [u8; 16])
+    requires { ⌜ 16 * k + 16 ≤ length (now t) ⌝ }
+    ensures { λ _. ⌜ now (t .exit) ≡ withSlot (now (t .entry)) k v ⌝ }
+{
+    let a = 16 * k;
+    fill16(&mut t[a..a + 16], v);
+}
+
+// Makes slot `k` 16 zeros.
+pub fn clear_slot(t: &mut [u8], k: usize)
+    requires { ⌜ 16 * k + 16 ≤ length (now t) ⌝ }
+    ensures { λ _. ⌜ now (t .exit) ≡ withSlot (now (t .entry)) k emptySlot ⌝ }
+{
+    let a = 16 * k;
+    fill16(&mut t[a..a + 16], [0u8; 16]);
+}

@@ -1,0 +1,51 @@
+-- What a good packet's bytes say: it is good in its place, its hops leave room for one more in their byte, and its slot is not empty.
+-- Assumes nothing.
+use Prim.Native.Nat.{ℕ, _<_, _≤_}
+use mathlib.Core.Path.{_≡_, refl}
+use mathlib.Core.Bool.{true, false}
+use mathlib.Core.List.{List, [], _∷_}
+use lib.ListN.{getD}
+use borrow.Author.Tests.{eqb-true}
+use Rattle.network.specs.declared.Kind.{Kind}
+use Rattle.network.specs.declared.Kind.the-variants.{Waiting, A, B}
+use Rattle.network.specs.declared.Place.{Place}
+use Rattle.network.specs.Net.{Net}
+use Rattle.network.specs.Packet.{fitsKind, good, Good}
+use Rattle.network.proofs.Course.{good-means}
+use Rattle.network.proofs.Tests.{and-l, clash}
+use Rattle.mesh.proofs.Metric.{distance-most}
+use Rattle.slots.specs.Slots.{slotAt, zeros}
+use Rattle.table.specs.declared.trailer.Head.{Head}
+use Rattle.table.specs.Layout.{GoodHead, netOf, layoutOf}
+use Rattle.table.specs.Packets.{packetOf, itemIn, goodAt, fieldsOf, packetBy, itemBy}
+use Rattle.table.proofs.Places.{layout-laws, valid-byte, place-byte}
+
+-- no test reads the payload
+module _ (v : List ℕ) where
+  fits-by : (N : Net) (k : Kind) (here : ℕ) → fitsKind N k here (packetBy (fieldsOf v)) ≡ fitsKind N k here (packetOf v)
+  fits-by N Waiting here = refl
+  fits-by N A here = refl
+  fits-by N B here = refl
+
+  pub good-by : (N : Net) (taken delivered : ℕ) (here : Place)
+      → good N taken delivered (itemBy here (fieldsOf v)) ≡ good N taken delivered (record { place = here; packet = packetOf v })
+  unfolding good
+  good-by N taken delivered here = rw (fits-by N (here .kind) (here .node))
+
+mark-not-zero : (v : List ℕ) → getD v 0 0 ≡ 1 → zeros v ≡ false
+mark-not-zero [] e = clash e
+mark-not-zero (x ∷ v) e = rw e
+
+module _ (h : Head) (t : List ℕ) (k : ℕ) (good-there : goodAt h t k ≡ true) where
+  pub mark-held : zeros (slotAt t k) ≡ false
+  unfolding goodAt good
+  mark-held = mark-not-zero (slotAt t k) (eqb-true _ _ (and-l _ _ good-there))
+
+  module _ (g : GoodHead h) (l : k < layoutOf h .size) where
+    pub good-here : Good (netOf h) (h .taken) (h .delivered) (itemIn h t k)
+    unfolding goodAt
+    good-here = good-means (netOf h) (h .taken) (h .delivered) (itemIn h t k) (layout-laws h g .on-net k l) good-there
+
+    pub good-hops : getD (slotAt t k) 3 0 ≤ 30
+    good-hops =
+        rw (good-here .made) (distance-most (getD (slotAt t k) 1 0) (layoutOf h .placeOf k .node) (valid-byte h g _ (good-here .from)) (place-byte h g k l))

@@ -1,0 +1,37 @@
+-- `table::trailer::clear_table` meets its contract: zeros, and the fresh trailer put into the place of one more slot.
+-- Assumes nothing.
+use borrow.Author.Needs.{needs}
+use Rattle.table.proofs.FreshLaws.{fresh-made}
+use Rattle.table.proofs.trailer.clear_table.Statement.{statement}
+use Rattle.table.proofs.trailer.clear_table.Tie as tie
+
+fresh-trailer-requires : tie.Need-fresh-trailer-requires
+fresh-trailer-requires c κs = search needs
+
+slot-count-requires : tie.Need-slot-count-requires
+slot-count-requires c κs = search needs
+
+zero-all-requires : tie.Need-zero-all-requires
+zero-all-requires c κs = search needs
+
+write-slot-requires : tie.Need-write-slot-requires
+write-slot-requires c κs = search needs
+
+same-length : tie.Need-same-length
+same-length c = search needs
+
+returns : tie.Need-returns
+returns c =
+    let a = c .before .before .before .before .before .before .before .before .before .before .before .args in
+    cc (fresh-made (a .width) (a .height) (a .depth))
+
+pub clear-table-spec : {M : Type 1} → statement M
+clear-table-spec =
+    tie.close
+    (tie.spec
+    fresh-trailer-requires
+    slot-count-requires
+    zero-all-requires
+    write-slot-requires
+    same-length
+    returns)

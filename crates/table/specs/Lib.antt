@@ -1,0 +1,6 @@
+pub mod Refusals
+pub mod Trailer
+pub mod Layout
+pub mod Packets
+pub mod Queues
+pub mod Carriage
