@@ -1,7 +1,8 @@
 -- Document 01's cases marked P, as a table: what is asked, and what the answer must be.
 -- Assumes nothing.
 use mathlib.Core.List.{List, [], _∷_}
-use Prim.Native.Nat.{ℕ, suc}
+use Prim.Native.Nat.{ℕ, zero, suc}
+use lib.ListN.{take, replicate}
 use Rattle.network.specs.declared.Kind.{Kind}
 use Rattle.network.specs.declared.Kind.the-variants.{Waiting, A, B}
 use Rattle.network.specs.declared.Place.{Place}
@@ -11,10 +12,15 @@ use Rattle.network.specs.Net.{Net, at}
 use Rattle.network.specs.Packet.{Packet, Item, Delivery, offer, hopped, turned, handed}
 use Rattle.network.specs.Contents.{Contents}
 use Rattle.network.specs.Drain.{sum}
-use Rattle.mesh.specs.Grid.{node}
+use Rattle.mesh.specs.Grid.{node, xOf, yOf}
 use Rattle.mesh.specs.Mesh.{mesh}
+use Rattle.slots.specs.Slots.{slotAt}
+use Rattle.table.specs.declared.trailer.Head.{Head}
+use Rattle.table.specs.Trailer.{slotCount, tableSize}
+use Rattle.table.specs.Layout.{numberOf, layoutOf}
+use Rattle.router.specs.Clear.{depthUsed, cleared}
 
--- the grid of every case below
+-- the grid of the cases of the rule
 abbrev pub grid : Net
 grid = mesh 3 3
 
@@ -63,6 +69,25 @@ outcome (walking moves x) = []
 outcome (arrived moves d) = moves ∷ d .packet .hops ∷ d .node ∷ []
 outcome refused = []
 
+-- a fresh table's head, as far as its layout goes
+abbrev headOf : ℕ → ℕ → ℕ → Head
+headOf width height depth = record { width = width; height = height; depth = depth; taken = 0; delivered = 0; size = tableSize width height depth }
+
+-- the kinds by number: waiting, A, B
+abbrev kindNumber : Kind → ℕ
+kindNumber Waiting = 0
+kindNumber A = 1
+kindNumber B = 2
+
+-- a place: its node's number, x, y and kind
+abbrev placeNumbers : ℕ → Place → List ℕ
+placeNumbers width p = numberOf width (p .node) ∷ xOf (p .node) ∷ yOf (p .node) ∷ kindNumber (p .kind) ∷ []
+
+-- at each of n places from k on, that place's own offset
+abbrev offsets : ℕ → ℕ → List ℕ
+offsets k zero = []
+offsets k (suc n) = k ∷ offsets (suc k) n
+
 -- a question
 pub data Question : Type 0 where
   -- the codes that the rule offers, of all that there are
@@ -73,12 +98,24 @@ pub data Question : Type 0 where
   summed : List Item → Question
   -- a walk by these codes: its moves, its hops, and the node where it ends in delivery
   walked : Item → List ℕ → Question
+  -- for a clear with this width, height and depth: the depth used, S, and the table's bytes
+  sized : ℕ → ℕ → ℕ → Question
+  -- the number that a clear answers for a slice of so many bytes
+  clears : ℕ → ℕ → ℕ → ℕ → Question
+  -- in a table of this width, height and depth, a slot's place: its node's number, x, y and kind
+  placed : ℕ → ℕ → ℕ → ℕ → Question
+  -- where a slot's first byte is, in a table of 448 bytes
+  byteOf : ℕ → Question
 
 abbrev pub answer : Question → List ℕ
 answer (codes x) = offered x (1 ∷ 2 ∷ 3 ∷ 4 ∷ 5 ∷ 6 ∷ 7 ∷ [])
 answer (apart a b) = grid .distance a b ∷ []
 answer (summed l) = sum grid record { items = l; taken = 1; delivered = 0 } ∷ []
 answer (walked x l) = outcome (walk (walking 0 x) l)
+answer (sized width height depth) = depthUsed depth ∷ slotCount width height (depthUsed depth) ∷ tableSize width height (depthUsed depth) ∷ []
+answer (clears width height depth n) = cleared (replicate n 0) width height depth .answer ∷ []
+answer (placed width height depth slot) = placeNumbers width (layoutOf (headOf width height depth) .placeOf slot)
+answer (byteOf slot) = take 1 (slotAt (offsets 0 448) slot)
 
 pub record Case : Type 0 where
   pub asked : Question
@@ -90,7 +127,17 @@ case q a = record { asked = q; right = a }
 -- document 01, "On both sides of the edge"
 abbrev pub table : List Case
 table =
-    case (codes (packetAt A 0 2 2 0)) (2 ∷ 5 ∷ [])
+    case (sized 3 3 1) (1 ∷ 27 ∷ 448 ∷ [])
+    ∷ case (clears 3 3 1 447) (9 ∷ [])
+    ∷ case (clears 3 3 1 448) (0 ∷ [])
+    ∷ case (sized 16 16 7) (7 ∷ 3840 ∷ 61456 ∷ [])
+    ∷ case (clears 16 16 8 0) (8 ∷ [])
+    ∷ case (sized 1 1 0) (5 ∷ 11 ∷ 192 ∷ [])
+    ∷ case (clears 1 1 0 191) (9 ∷ [])
+    ∷ case (clears 1 1 0 192) (0 ∷ [])
+    ∷ case (placed 3 3 1 20) (6 ∷ 0 ∷ 2 ∷ 2 ∷ [])
+    ∷ case (byteOf 20) (320 ∷ [])
+    ∷ case (codes (packetAt A 0 2 2 0)) (2 ∷ 5 ∷ [])
     ∷ case (codes (packetAt A 2 2 2 0)) (6 ∷ [])
     ∷ case (codes (packetAt A 2 0 0 2)) (3 ∷ 4 ∷ [])
     ∷ case (codes (packetAt A 1 1 1 1)) (6 ∷ 7 ∷ [])

@@ -4,10 +4,12 @@ use Prim.Native.Nat.{ℕ, _+_, _-_, _*_, _/_, _%_, _<_, _≤_}
 use mathlib.Core.Path.{_≡_, refl}
 use mathlib.Core.Logic.{_≢_}
 use mathlib.Core.Bool.{Bool, true, false, cond}
+use mathlib.Core.List.{List}
 use native.Mathlib.Omega.{arith}
 use native.Mathlib.Nat.{mul-comm, mod-lt, div-add-mod', div-lt-iff-lt-mul}
 use lib.Arith.{digits-lt, digits-div, digits-mod}
 use lib.Dec.{eqb, leb}
+use lib.ListN.{length}
 use borrow.Author.Tests.{eqb-true, eqb-false, leb-true, leb-false, eq-eqb, ne-eqb, le-leb, lt-leb}
 use Rattle.network.specs.declared.Kind.{Kind}
 use Rattle.network.specs.declared.Kind.the-variants.{Waiting, A, B}
@@ -16,6 +18,7 @@ use Rattle.network.specs.View.{LayoutLaws}
 use Rattle.mesh.specs.Grid.{xOf, yOf, onGrid}
 use Rattle.mesh.proofs.Hops.{on-means, on-by}
 use Rattle.table.specs.declared.trailer.Head.{Head}
+use Rattle.table.specs.Trailer.{Sized}
 use Rattle.table.specs.Layout.{GoodHead, netOf, numberOf, nodeOf, perNode, offset, kindOf, roomOf, layoutOf}
 
 -- ---- the slots of a node
@@ -122,3 +125,8 @@ module _ (h : Head) (g : GoodHead h) where
         let q = lies (h .depth) (i % perNode (h .depth)) (mod-lt i (omega arith)) in
         let m = number-there (h .width) (g .width-low) (g .width-high) (i / perNode (h .depth)) in
         (q .0, q .1, rw m (omega (arith, div-add-mod' i (perNode (h .depth)), q .2)))
+
+-- a slot's 16 bytes lie in the table
+pub slot-fits : {h : Head} {t : List ℕ} → Sized h t → (k : ℕ) → k < layoutOf h .size → 16 * k + 16 ≤ length t
+unfolding layoutOf
+slot-fits z k l = omega (arith, z .full)

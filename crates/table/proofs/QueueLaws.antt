@@ -1,4 +1,4 @@
--- The search for room: a turn of its loop, and what its two answers mean.
+-- The search for room: a turn of its loop, what its two answers mean, and that the room found in a node's queue lies in the table.
 -- Assumes nothing.
 use Prim.Native.Nat.{ℕ, zero, suc, _+_, _-_, _≤_, _<_}
 use mathlib.Core.Path.{_≡_, refl, sym, ap, _∙_}
@@ -8,11 +8,15 @@ use mathlib.Core.Bool.{Bool, true, false, cond}
 use native.Mathlib.Omega.{arith}
 use native.Mathlib.Nat.{eq-or-lt-of-le}
 use native.Mathlib.Numerals.{add-one}
+use Rattle.network.specs.declared.Place.{Place}
 use Rattle.network.proofs.Tests.{clash, cond-true, cond-false}
 use Rattle.slots.specs.Slots.{slotAt, zeros}
+use Rattle.table.specs.declared.trailer.Head.{Head}
 use Rattle.table.specs.declared.queues.Room.{Room}
 use Rattle.table.specs.declared.queues.Room.the-variants.{At, Full}
-use Rattle.table.specs.Queues.{roomIn, Lowest, Filled}
+use Rattle.table.specs.Layout.{GoodHead, netOf, layoutOf}
+use Rattle.table.specs.Queues.{roomIn, roomAt, isFull, slotIn, Lowest, Filled}
+use Rattle.table.proofs.Places.{queue-within}
 
 pub room-step : (t : List ℕ) (k e : ℕ) → k < e → roomIn t k (e - k) ≡ cond (zeros (slotAt t k)) (At k) (roomIn t (k + 1) (e - (k + 1)))
 room-step t k e h =
@@ -68,3 +72,15 @@ some-room t b n j l g z = go (roomIn t b n) refl
     go : (r : Room) → roomIn t b n ≡ r → (k : ℕ) × (roomIn t b n ≡ At k)
     go (At k) e = (k, e)
     go Full e = let f = room-filled t b n e .all j l g in clash cc
+
+-- a queue that is not full has the slot that was found
+pub room-there : (r : Room) → isFull r ≡ false → r ≡ At (slotIn r)
+room-there (At k) e = refl
+room-there Full e = clash cc
+
+-- which lies in the table
+pub room-within : (h : Head) → GoodHead h → (t : List ℕ) (p : Place) (k : ℕ) → netOf h .valid (p .node) ≡ true → roomAt h t p ≡ At k
+    → k < layoutOf h .size
+unfolding roomAt
+room-within h g t p k v e =
+    omega (arith, room-lowest t (layoutOf h .first p) (layoutOf h .room (p .kind)) k e .below, queue-within h g p v)

@@ -1,7 +1,7 @@
 -- The first refusal that is due.
 -- Assumes nothing.
 use Prim.Native.Nat.{ℕ, suc}
-use mathlib.Core.Path.{_≡_, refl, sym, ap, _∙_}
+use mathlib.Core.Path.{_≡_, refl}
 use mathlib.Core.List.{List, [], _∷_, _++_}
 use mathlib.Core.Logic.{_≢_}
 use mathlib.Core.Bool.{Bool, true, false, cond}
@@ -9,19 +9,22 @@ use native.Mathlib.Omega.{arith}
 use lib.Dec.{eqb}
 use borrow.Author.Tests.{eq-eqb, ne-eqb}
 use Rattle.network.proofs.Tests.{cond-true, cond-false}
-use Rattle.table.specs.Refusals.{Row, row, firstDue}
+use Rattle.table.specs.Refusals.{Row, firstDue}
 
--- a row that is due, and one that is not
-pub due-here : (n : ℕ) {b : Bool} (rs : List Row) → b ≡ true → firstDue (row n b ∷ rs) ≡ n
-due-here n rs e = cond-true n (firstDue rs) e
+-- a choice of a refusal's number that comes to 0: it is not due, and nothing after it
+pub passed : (n : ℕ) (b : Bool) (x : ℕ) → cond b (suc n) x ≡ 0 → (b ≡ false) × (x ≡ 0)
+passed n true x e = absurd (omega arith)
+passed n false x e = (refl, e)
 
-pub due-later : (n : ℕ) {b : Bool} (rs : List Row) → b ≡ false → firstDue (row n b ∷ rs) ≡ firstDue rs
-due-later n rs e = cond-false n (firstDue rs) e
-
--- nothing is due: not this row, and none after it
-pub none-due : (n : ℕ) (b : Bool) (rs : List Row) → firstDue (row (suc n) b ∷ rs) ≡ 0 → (b ≡ false) × (firstDue rs ≡ 0)
-none-due n true rs e = absurd (omega arith)
-none-due n false rs e = (refl, e)
+-- what is due before is due first
+pub due-first : (rs ss : List Row) → firstDue rs ≢ 0 → firstDue (rs ++ ss) ≡ firstDue rs
+due-first [] ss u = absurd (u refl)
+due-first (r ∷ rs) ss u = here (r .due) (due-first rs ss) u
+  where
+    here : (b : Bool) → (firstDue rs ≢ 0 → firstDue (rs ++ ss) ≡ firstDue rs) → cond b (r .number) (firstDue rs) ≢ 0
+        → cond b (r .number) (firstDue (rs ++ ss)) ≡ cond b (r .number) (firstDue rs)
+    here true f u = refl
+    here false f u = f u
 
 -- a choice by whether something is due
 pub accepted-by : {A : Type 0} {n : ℕ} (x y : A) → n ≡ 0 → cond (eqb n 0) x y ≡ x

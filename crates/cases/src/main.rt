@@ -1,0 +1,235 @@
+// Document 01's cases that are run and not proved, one call of every refusal, and a slot that the next packet takes at once.
+
+fn say(text: &[u8]) {
+    io::write_all(libc::STDOUT_FILENO, text);
+}
+
+fn number(n: u32) {
+    io::print_decimal(libc::STDOUT_FILENO, n as u64);
+}
+
+fn byte(b: u8) {
+    say(b" ");
+    number(b as u32);
+}
+
+fn bytes(s: &[u8]) {
+    let mut i = 0;
+    while i < s.len() {
+        byte(s[i]);
+        i += 1;
+    }
+}
+
+fn clear(s: &mut [u8], width: u32, height: u32, depth: u32) {
+    say(b"clear ");
+    number(router::clear(s, width, height, depth));
+    say(b"\n");
+}
+
+fn take_in(s: &mut [u8], source: u8, destination: u8) {
+    let t = router::take_in(s, source, destination, [1, 2, 3, 4, 5, 6, 7, 8]);
+    say(b"take in ");
+    number(t.number);
+    say(b" slot ");
+    number(t.slot);
+    say(b" serial ");
+    number(t.serial);
+    say(b"\n");
+}
+
+fn make_move(s: &mut [u8], slot: u32, code: u32) {
+    let m = router::make_move(s, slot, code);
+    let packet = m.packet;
+    say(b"move ");
+    number(m.number);
+    say(b" slot ");
+    number(m.slot);
+    say(b" record");
+    bytes(&packet);
+    say(b"\n");
+}
+
+fn read_payload(s: &[u8], slot: u32) {
+    let mut answered: u32 = 0;
+    let part = router::read_payload(s, slot, &mut answered);
+    say(b"payload ");
+    number(answered);
+    bytes(part);
+    say(b"\n");
+}
+
+fn show(s: &[u8]) {
+    say(b"bytes");
+    bytes(s);
+    say(b"\n");
+}
+
+// Waiting at (0,0) to (0,0): enter leads to B, then 7; no hops.
+fn at_home() {
+    say(b"at its destination from the start\n");
+    let mut t = [0u8; 64];
+    clear(&mut t, 1, 1, 1);
+    take_in(&mut t, 0, 0);
+    make_move(&mut t, 0, 1);
+    make_move(&mut t, 2, 7);
+    show(&t);
+}
+
+// Depth 1, A at (0,0) to (1,0), A slot at (1,0) held: code 2 answers 6.
+fn queue_full() {
+    say(b"the target queue is full\n");
+    let mut t = [0u8; 112];
+    clear(&mut t, 2, 1, 1);
+    take_in(&mut t, 0, 1);
+    make_move(&mut t, 0, 1);
+    make_move(&mut t, 1, 2);
+    take_in(&mut t, 0, 1);
+    make_move(&mut t, 0, 1);
+    make_move(&mut t, 1, 2);
+}
+
+// The slot that a packet has just left is taken by the next one.
+fn slot_reused() {
+    say(b"a slot just left\n");
+    let mut t = [0u8; 112];
+    clear(&mut t, 2, 1, 1);
+    take_in(&mut t, 0, 1);
+    make_move(&mut t, 0, 1);
+    take_in(&mut t, 0, 1);
+    make_move(&mut t, 0, 1);
+    make_move(&mut t, 1, 2);
+    make_move(&mut t, 0, 1);
+    make_move(&mut t, 4, 7);
+    read_payload(&t, 1);
+    show(&t);
+}
+
+// A slice too short for a trailer, and a trailer that is not good.
+fn bad_trailer() {
+    say(b"refusal 1\n");
+    let mut short = [0u8; 15];
+    take_in(&mut short, 0, 0);
+    make_move(&mut short, 0, 1);
+    read_payload(&short, 0);
+    let mut t = [0u8; 64];
+    clear(&mut t, 1, 1, 1);
+    t[51] = 1;
+    take_in(&mut t, 0, 0);
+    make_move(&mut t, 0, 1);
+    read_payload(&t, 0);
+    show(&t);
+}
+
+fn put(s: &mut [u8], at: usize, value: u8) {
+    if at < s.len() {
+        s[at] = value;
+    }
+}
+
+// One byte of a good trailer changed: a payload is asked for, in a table of one node and depth 1.
+fn with_byte(at: usize, value: u8) {
+    let mut t = [0u8; 64];
+    router::clear(&mut t, 1, 1, 1);
+    put(&mut t, at, value);
+    read_payload(&t, 0);
+}
+
+// Each field of the trailer out of range, the distance longer than the slice or another, delivered above taken; and no bytes at all.
+fn every_field() {
+    say(b"refusal 1, field by field\n");
+    with_byte(48, 0);
+    with_byte(48, 17);
+    with_byte(49, 0);
+    with_byte(49, 17);
+    with_byte(50, 0);
+    with_byte(50, 8);
+    with_byte(51, 1);
+    with_byte(56, 1);
+    with_byte(60, 65);
+    with_byte(60, 63);
+    with_byte(63, 1);
+    let none = [0u8; 1];
+    read_payload(&none[..0], 0);
+}
+
+fn out_of_range() {
+    say(b"refusal 2\n");
+    let mut t = [0u8; 112];
+    clear(&mut t, 2, 1, 1);
+    take_in(&mut t, 2, 0);
+    take_in(&mut t, 0, 16);
+    take_in(&mut t, 0, 1);
+    make_move(&mut t, 6, 1);
+    make_move(&mut t, 4294967295, 1);
+    make_move(&mut t, 0, 0);
+    make_move(&mut t, 0, 8);
+    make_move(&mut t, 0, 4294967295);
+    read_payload(&t, 6);
+}
+
+fn empty_or_spoiled() {
+    say(b"refusals 3 and 4\n");
+    let mut t = [0u8; 112];
+    clear(&mut t, 2, 1, 1);
+    make_move(&mut t, 0, 1);
+    read_payload(&t, 0);
+    t[15] = 1;
+    make_move(&mut t, 0, 1);
+    read_payload(&t, 0);
+    take_in(&mut t, 0, 1);
+    show(&t);
+}
+
+// A spoiled slot in the target queue is not empty.
+fn not_offered_or_no_room() {
+    say(b"refusals 5 and 6\n");
+    let mut t = [0u8; 112];
+    clear(&mut t, 2, 1, 1);
+    take_in(&mut t, 0, 1);
+    take_in(&mut t, 0, 1);
+    make_move(&mut t, 0, 2);
+    t[31] = 1;
+    make_move(&mut t, 0, 1);
+    t[31] = 0;
+    make_move(&mut t, 0, 1);
+}
+
+fn all_taken() {
+    say(b"refusal 7\n");
+    let mut t = [0u8; 112];
+    clear(&mut t, 2, 1, 1);
+    t[100] = 255;
+    t[101] = 255;
+    t[102] = 255;
+    t[103] = 255;
+    take_in(&mut t, 0, 1);
+    t[100] = 254;
+    take_in(&mut t, 0, 1);
+    show(&t);
+}
+
+fn sizes() {
+    say(b"refusals 8 and 9\n");
+    let mut t = [7u8; 111];
+    clear(&mut t, 0, 1, 1);
+    clear(&mut t, 17, 1, 1);
+    clear(&mut t, 1, 4294967295, 1);
+    clear(&mut t, 1, 1, 8);
+    clear(&mut t, 2, 1, 1);
+    clear(&mut t, 1, 1, 2);
+    show(&t);
+}
+
+fn main() {
+    at_home();
+    queue_full();
+    slot_reused();
+    bad_trailer();
+    every_field();
+    out_of_range();
+    empty_or_spoiled();
+    not_offered_or_no_room();
+    all_taken();
+    sizes();
+}

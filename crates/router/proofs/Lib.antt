@@ -1,0 +1,3 @@
+pub mod OnTable
+pub mod TakeLaws
+pub mod MoveLaws

@@ -1,0 +1,63 @@
+-- `router::moving::go_ahead` meets its contract: each arm by the rule's answer.
+-- Assumes nothing.
+use borrow.Author.Needs.{needs}
+use Rattle.router.specs.Move.{ahead}
+use Rattle.router.proofs.moving.go_ahead.Statement.{statement}
+use Rattle.router.proofs.moving.go_ahead.Tie as tie
+
+enum-known-lead : tie.Need-enum-known-lead
+enum-known-lead c = search needs
+
+to-queue-requires : tie.Need-to-queue-requires
+to-queue-requires c κs =
+    let s = c .before .before .before .before in
+    (s .pre .0, rw (c .before .lead .given .1) at (s .pre .1))
+
+enum-known-lead-2 : tie.Need-enum-known-lead-2
+enum-known-lead-2 c = search needs
+
+to-queue-requires-2 : tie.Need-to-queue-requires-2
+to-queue-requires-2 c κs =
+    let s = c .before .before .before .before in
+    (s .pre .0, rw (c .before .lead2 .given .1) at (s .pre .1))
+
+enum-told : tie.Need-enum-told
+enum-told c = search needs
+
+enum-told-2 : tie.Need-enum-told-2
+enum-told-2 c = search needs
+
+refuse-requires : tie.Need-refuse-requires
+refuse-requires c κs = search needs
+
+returns : tie.Need-returns
+unfolding ahead
+returns c = rw (c .before .before .lead .given .1) (c .to-queue .ensures)
+
+returns-2 : tie.Need-returns-2
+unfolding ahead
+returns-2 c = rw (c .before .before .lead2 .given .1) (c .to-queue2 .ensures)
+
+returns-3 : tie.Need-returns-3
+unfolding ahead
+returns-3 c = rw (c .enum-told .given .1)
+
+returns-4 : tie.Need-returns-4
+unfolding ahead
+returns-4 c = rw (c .before .enum-told2 .given .1) (c .refuse .ensures)
+
+pub go-ahead-spec : {M : Type 1} → statement M
+go-ahead-spec =
+    tie.close
+    (tie.spec
+    enum-known-lead
+    to-queue-requires
+    enum-known-lead-2
+    to-queue-requires-2
+    enum-told
+    enum-told-2
+    refuse-requires
+    returns
+    returns-2
+    returns-3
+    returns-4)
