@@ -1,5 +1,9 @@
 // Document 01's cases that are run and not proved, one call of every refusal, and a slot that the next packet takes at once.
 
+use survey::checking::Checked;
+use survey::copying::Copied;
+use survey::finding::Found;
+
 fn say(text: &[u8]) {
     io::write_all(libc::STDOUT_FILENO, text);
 }
@@ -57,6 +61,57 @@ fn read_payload(s: &[u8], slot: u32) {
     number(answered);
     bytes(part);
     say(b"\n");
+}
+
+fn answer(label: &[u8], n: u32, place: u32) {
+    say(label);
+    number(n);
+    say(b" at ");
+    number(place);
+    say(b"\n");
+}
+
+fn full_check(s: &[u8]) {
+    let c = survey::full_check(s);
+    match c {
+        Checked::Passes => say(b"check passes\n"),
+        Checked::BadTrailer => answer(b"check ", table::refusals::TRAILER, 0),
+        Checked::FaultAt(place) => answer(b"check ", table::refusals::FAULT, place),
+    }
+}
+
+fn find(s: &[u8]) {
+    let f = survey::find(s);
+    match f {
+        Found::Move(slot, code) => {
+            say(b"find 0 slot ");
+            number(slot);
+            say(b" code ");
+            number(code);
+            say(b"\n");
+        }
+        Found::BadTrailer => answer(b"find ", table::refusals::TRAILER, 0),
+        Found::FaultAt(place) => answer(b"find ", table::refusals::FAULT, place),
+        Found::NothingHeld => answer(b"find ", table::refusals::NOTHING_HELD, 0),
+    }
+}
+
+fn copy_outward(s: &[u8], out: &mut [u8]) {
+    let c = survey::copy_outward(s, out);
+    match c {
+        Copied::Done => say(b"copy done\n"),
+        Copied::BadTrailer => answer(b"copy ", table::refusals::TRAILER, 0),
+        Copied::FaultAt(place) => answer(b"copy ", table::refusals::FAULT, place),
+        Copied::WrongLength => answer(b"copy ", table::refusals::BUFFER, 0),
+    }
+    show(out);
+}
+
+fn judge(s: &[u8]) {
+    let mut out = [9u8; 64];
+    full_check(s);
+    find(s);
+    copy_outward(s, &mut out);
 }
 
 fn show(s: &[u8]) {
@@ -221,6 +276,39 @@ fn sizes() {
     show(&t);
 }
 
+// An empty table; a lone waiting packet; the copy of it, and buffers one byte short and long.
+fn judged() {
+    say(b"a table that passes\n");
+    let mut t = [0u8; 64];
+    let mut short = [9u8; 63];
+    let mut long = [9u8; 65];
+    clear(&mut t, 1, 1, 1);
+    judge(&t);
+    take_in(&mut t, 0, 0);
+    judge(&t);
+    copy_outward(&t, &mut short);
+    copy_outward(&t, &mut long);
+}
+
+// A trailer that is not good; an empty slot with one payload byte 1; a wrong count; two slots with one serial.
+fn faulty() {
+    say(b"tables that do not pass\n");
+    let mut t = [0u8; 64];
+    judge(&t);
+    clear(&mut t, 1, 1, 1);
+    t[15] = 1;
+    judge(&t);
+    t[15] = 0;
+    t[52] = 1;
+    judge(&t);
+    clear(&mut t, 1, 1, 1);
+    take_in(&mut t, 0, 0);
+    make_move(&mut t, 0, 1);
+    take_in(&mut t, 0, 0);
+    t[4] = 0;
+    judge(&t);
+}
+
 fn main() {
     at_home();
     queue_full();
@@ -232,4 +320,6 @@ fn main() {
     not_offered_or_no_room();
     all_taken();
     sizes();
+    judged();
+    faulty();
 }

@@ -27,6 +27,10 @@ module _ {A : Type 0} where
   all-mem P (List·Memᴰ·head e) h = subst P (sym e) (h .0)
   all-mem P (List·Memᴰ·tail m) h = all-mem P m (h .1)
 
+  pub mem-all : (P : A → Type 0) (l : List A) → ((x : A) → List·Memᴰ x l → P x) → All P l
+  mem-all P [] h = tt
+  mem-all P (x ∷ l) h = (h x (List·Memᴰ·head refl), mem-all P l (λ y m. h y (List·Memᴰ·tail m)))
+
   pub total-perm : (f : A → ℕ) {l m : List A} → List·Permᴰ l m → total f l ≡ total f m
   total-perm f List·Permᴰ·nil = refl
   total-perm f (List·Permᴰ·cons e d) = omega (arith, ap f e, total-perm f d)
@@ -102,6 +106,23 @@ module _ {A : Type 0} where
     | yes e ↦ Memᴰ·append-left (collect g n) (rw e at m)
     | no e ↦ Memᴰ·append-right (g n) (mem-collect g n i (omega arith) m)
   ]
+
+  -- what all of a collection have is what all at each place have
+  pub all-collect : (P : A → Type 0) (g : ℕ → List A) (n : ℕ) → ((i : ℕ) → i < n → All P (g i)) → All P (collect g n)
+  all-collect P g n h = mem-all P (collect g n) (λ x m. let r = collect-mem g n m in all-mem P (r .2) (h (r .0) (r .1)))
+
+  pub collect-all : (P : A → Type 0) (g : ℕ → List A) (n : ℕ) → All P (collect g n) → (i : ℕ) → i < n → All P (g i)
+  collect-all P g n h i l = mem-all P (g i) (λ x m. all-mem P (mem-collect g n i l m) h)
+
+-- of the images of a list
+module _ {A B : Type 0} (P : B → Type 0) (f : A → B) where
+  pub all-images : (l : List A) → All (λ x. P (f x)) l → All P (map f l)
+  all-images [] h = tt
+  all-images (x ∷ l) h = (h .0, all-images l (h .1))
+
+  pub images-all : (l : List A) → All P (map f l) → All (λ x. P (f x)) l
+  images-all [] h = tt
+  images-all (x ∷ l) h = (h .0, images-all l (h .1))
 
 apart : {x y : ℕ} (l : List ℕ) → x ≡ y → All (λ (u : ℕ). x ≡ u → ⊥) l → All (λ (u : ℕ). y ≡ u → ⊥) l
 apart l e = all-map (λ u n q. n (e ∙ q)) l

@@ -6,7 +6,7 @@ use mathlib.Core.Logic.{_≢_}
 use mathlib.Core.List.{List, []}
 use native.Mathlib.Omega.{arith}
 use native.Mathlib.Decide.{decLt}
-use lib.ListN.{length, getD, take, drop, set, length-drop}
+use lib.ListN.{length, getD, take, drop, set, length-drop, take-append-drop}
 use lib.Seq.{getD-take, getD-drop, drop-drop, take-at, drop-at}
 use borrow.Rule.Slice.PartMut.{putMid}
 use Rattle.slots.specs.Bytes.{part, put, le32}
@@ -90,6 +90,21 @@ slot-back t k w v q l = lent-back t (16 * k) 16 w v q l
 step : (k : ℕ) → 16 * suc k ≡ 16 + 16 * k
 step k = omega arith
 
+-- what follows slot 0 and k slots more
+pub drop-next : (k : ℕ) (t : List ℕ) → drop (16 * suc k) t ≡ drop (16 * k) (drop 16 t)
+drop-next k t = rw (drop-drop, ← step)
+
+-- bytes are their slots and what follows them
+pub slots-ext : (n : ℕ) (t w : List ℕ) → ((k : ℕ) → k < n → slotAt t k ≡ slotAt w k) → drop (16 * n) t ≡ drop (16 * n) w → t ≡ w
+unfolding slotAt
+slots-ext zero t w f e = e
+slots-ext (suc n) t w f e =
+    let next : (k : ℕ) → k < n → slotAt (drop 16 t) k ≡ slotAt (drop 16 w) k =
+    λ k l. ap (take 16) (sym (drop-next k t)) ∙ f (suc k) (omega arith) ∙ ap (take 16) (drop-next k w) in
+    let rest : drop 16 t ≡ drop 16 w = slots-ext n (drop 16 t) (drop 16 w) next (sym (drop-next n t) ∙ e ∙ drop-next n w) in
+    let here : take 16 t ≡ take 16 w = f 0 (omega arith) in
+    sym (take-append-drop 16 t) ∙ rw (here, rest) (take-append-drop 16 w)
+
 pub length-slotsOf : (n : ℕ) (t : List ℕ) → length (slotsOf n t) ≡ n
 length-slotsOf zero t = refl
 length-slotsOf (suc n) t = ap suc (length-slotsOf n (drop 16 t))
@@ -99,7 +114,7 @@ pub getD-slotsOf : (n : ℕ) (t : List ℕ) (k : ℕ) → k < n → getD (slotsO
 unfolding slotAt
 getD-slotsOf zero t k h = absurd (omega arith)
 getD-slotsOf (suc n) t zero h = refl
-getD-slotsOf (suc n) t (suc k) h = getD-slotsOf n (drop 16 t) k (omega arith) ∙ rw (drop-drop, ← step)
+getD-slotsOf (suc n) t (suc k) h = getD-slotsOf n (drop 16 t) k (omega arith) ∙ rw (drop-next k t)
 
 -- a slot written is an element set
 pub slotsOf-withSlot : (n : ℕ) (t : List ℕ) (k : ℕ) (v : List ℕ) → k < n → 16 * n ≤ length t → length v ≡ 16

@@ -1,10 +1,12 @@
 -- What a good packet's bytes say: it is good in its place, its hops leave room for one more in their byte, and its slot is not empty.
 -- Assumes nothing.
 use Prim.Native.Nat.{ℕ, _<_, _≤_}
-use mathlib.Core.Path.{_≡_, refl}
+use mathlib.Core.Path.{_≡_, refl, sym, ap, _∙_}
 use mathlib.Core.Bool.{true, false}
 use mathlib.Core.List.{List, [], _∷_}
-use lib.ListN.{getD}
+use native.Mathlib.Omega.{arith}
+use lib.ListN.{getD, take}
+use lib.Seq.{getD-take}
 use borrow.Author.Tests.{eqb-true}
 use Rattle.network.specs.declared.Kind.{Kind}
 use Rattle.network.specs.declared.Kind.the-variants.{Waiting, A, B}
@@ -14,11 +16,21 @@ use Rattle.network.specs.Packet.{fitsKind, good, Good}
 use Rattle.network.proofs.Course.{good-means}
 use Rattle.network.proofs.Tests.{and-l, clash}
 use Rattle.mesh.proofs.Metric.{distance-most}
+use Rattle.slots.specs.Bytes.{part}
 use Rattle.slots.specs.Slots.{slotAt, zeros}
+use Rattle.slots.proofs.Parts.{part-part}
+use Rattle.slots.proofs.Numbers.{le32-same}
 use Rattle.table.specs.declared.trailer.Head.{Head}
 use Rattle.table.specs.Layout.{GoodHead, netOf, layoutOf}
 use Rattle.table.specs.Packets.{packetOf, itemIn, goodAt, fieldsOf, packetBy, itemBy}
 use Rattle.table.proofs.Places.{layout-laws, valid-byte, place-byte}
+
+-- the fields are read of the first eight bytes
+pub fields-same : (v w : List ℕ) → take 8 v ≡ take 8 w → fieldsOf v ≡ fieldsOf w
+fields-same v w e =
+    let b : (i : ℕ) → i < 8 → getD v i 0 ≡ getD w i 0 = λ i l. sym (getD-take 8 v i 0 l) ∙ ap (λ (x : List ℕ). getD x i 0) e ∙ getD-take 8 w i 0 l in
+    let p : part v 4 4 ≡ part w 4 4 = sym (part-part v 0 8 4 4 (omega arith)) ∙ ap (λ (x : List ℕ). part x 4 4) e ∙ part-part w 0 8 4 4 (omega arith) in
+    rw (b 0 (omega arith), b 1 (omega arith), b 2 (omega arith), b 3 (omega arith), le32-same v w 4 4 p)
 
 -- no test reads the payload
 module _ (v : List ℕ) where
@@ -32,7 +44,7 @@ module _ (v : List ℕ) where
   unfolding good
   good-by N taken delivered here = rw (fits-by N (here .kind) (here .node))
 
-mark-not-zero : (v : List ℕ) → getD v 0 0 ≡ 1 → zeros v ≡ false
+pub mark-not-zero : (v : List ℕ) → getD v 0 0 ≡ 1 → zeros v ≡ false
 mark-not-zero [] e = clash e
 mark-not-zero (x ∷ v) e = rw e
 

@@ -97,13 +97,26 @@ trailer-moved s u e d l =
       size-in = l;
     })
 
--- of a table with bytes before it
+-- of a table with bytes before it, where the distance does not lead past the table
+pub trailer-before : (p t : List ℕ) → 16 ≤ length t → headOf (last16 t) .size ≤ length t → trailerOf (p ++ t) ≡ trailerOf t
+unfolding headOk trailerOf
+trailer-before p t long in-table =
+    let l : length (p ++ t) ≡ length p + length t = length-append p t in
+    let at : length (p ++ t) - 16 ≡ length p + (length t - 16) = omega arith in
+    let same : last16 (p ++ t) ≡ last16 t = rw at (drop-append-add p t (length t - 16)) in
+    rw (
+      le-leb 16 (length (p ++ t)) (omega arith),
+      le-leb 16 (length t) long,
+      same,
+      le-leb (headOf (last16 t) .size) (length (p ++ t)) (omega arith),
+      le-leb (headOf (last16 t) .size) (length t) in-table,
+    )
+
 pub trailer-after : (p t : List ℕ) {h : Head} → trailerOf t ≡ Good h → trailerOf (p ++ t) ≡ Good h
 trailer-after p t e =
     let g = trailer-good t e in
-    let l : length (p ++ t) ≡ length p + length t = length-append p t in
-    let at : length (p ++ t) - 16 ≡ length p + (length t - 16) = omega arith in
-    trailer-moved t (p ++ t) e (rw at (drop-append-add p t (length t - 16))) (omega arith)
+    let q = ap (λ (x : Head). x .size) (g .read) in
+    trailer-before p t (g .long) (omega arith) ∙ e
 
 module _ (s : List ℕ) {h : Head} (e : trailerOf s ≡ Good h) where
   -- of a slice's table

@@ -1,0 +1,4 @@
+pub mod Check
+pub mod Filter
+pub mod Find
+pub mod Copy

@@ -1,0 +1,175 @@
+// The full check: it names its first fault.
+use table::trailer::Head;
+use table::trailer::Headed;
+ghost use mathlib.Core.Path.{_≡_};
+ghost use Prim.Native.Nat.{_+_, _*_, _≤_, _<_};
+ghost use lib.ListN.{length};
+ghost use Rattle.table.specs.Trailer.{Sized};
+ghost use Rattle.table.specs.Layout.{layoutOf};
+ghost use Rattle.survey.specs.Check.{heldAt, spoiledAt, firstSpoiled, hasSerial, repeatsAt, firstRepeat, heldBelow};
+ghost use Rattle.survey.specs.Check.{countsOk, serialsOk, checkedIn, checkedSlice};
+ghost use Rattle.survey.specs.Filter.{Met};
+
+// Where a fault is, if there is one.
+pub enum Fault {
+    At(usize),
+    Nowhere,
+}
+
+pub enum Checked {
+    Passes,
+    BadTrailer,
+    FaultAt(u32),
+}
+
+fn held(t: &[u8], k: usize) -> bool
+    requires { ⌜ 16 * k + 16 ≤ length (now t) ⌝ }
+    ensures { λ r. ⌜ r ≡ heldAt (now (t .entry)) k ⌝ }
+{
+    !slots::slot_empty(t, k)
+}
+
+fn spoiled(t: &[u8], h: Head, k: usize) -> bool
+    requires { ⌜ Sized h (now t) ⌝ }
+    requires { ⌜ k < layoutOf h .size ⌝ }
+    ensures { λ r. ⌜ r ≡ spoiledAt h (now (t .entry)) k ⌝ }
+{
+    if !held(t, k) {
+        return false;
+    }
+    !table::packets::good_at(t, h, k)
+}
+
+// The lowest spoiled slot.
+fn first_spoiled(t: &[u8], h: Head) -> Fault
+    requires { ⌜ Sized h (now t) ⌝ }
+    ensures { λ r. ⌜ r ≡ firstSpoiled h (now (t .entry)) ⌝ }
+{
+    let n = table::layout::slots_of(h);
+    let mut k = 0;
+    while k < n {
+        if spoiled(t, h, k) {
+            return Fault::At(k);
+        }
+        k += 1;
+    }
+    Fault::Nowhere
+}
+
+// Does a held slot below `n` have this serial?
+fn has_serial(t: &[u8], serial: u32, n: usize) -> bool
+    requires { ⌜ 16 * n ≤ length (now t) ⌝ }
+    ensures { λ r. ⌜ r ≡ hasSerial (now (t .entry)) serial n ⌝ }
+{
+    let mut k = n;
+    while 0 < k {
+        k -= 1;
+        if held(t, k) {
+            if slots::slot_serial(t, k) == serial {
+                return true;
+            }
+        }
+    }
+    false
+}
+
+// Does a lower held slot have the serial of slot `k`? Only where the filter has met the serial, modulo 4,096, are lower slots searched.
+fn repeats(t: &[u8], flags: &mut [u8; 512], k: usize) -> bool
+    requires { ⌜ 16 * k + 16 ≤ length (now t) ⌝ }
+    requires { ⌜ Met (now t) (now flags) k ⌝ }
+    ensures { λ r. ⌜ r ≡ repeatsAt (now (t .entry)) k ⌝ }
+    ensures { λ _. ⌜ Met (now (t .entry)) (now (flags .exit)) (k + 1) ⌝ }
+{
+    if !held(t, k) {
+        return false;
+    }
+    let serial = slots::slot_serial(t, k);
+    let b = (serial % 4096) as usize;
+    if crate::filter::flag(flags, b) {
+        return has_serial(t, serial, k);
+    }
+    crate::filter::raise(flags, b);
+    false
+}
+
+// The lowest held slot whose serial a lower held slot has.
+fn first_repeat(t: &[u8], n: usize) -> Fault
+    requires { ⌜ 16 * n ≤ length (now t) ⌝ }
+    ensures { λ r. ⌜ r ≡ firstRepeat (now (t .entry)) n ⌝ }
+{
+    let mut flags = [0u8; 512];
+    let mut k = 0;
+    while k < n {
+        if repeats(t, &mut flags, k) {
+            return Fault::At(k);
+        }
+        k += 1;
+    }
+    Fault::Nowhere
+}
+
+// How many of the slots below `n` are held.
+fn held_below(t: &[u8], n: usize) -> usize
+    requires { ⌜ 16 * n ≤ length (now t) ⌝ }
+    ensures { λ r. ⌜ r ≡ heldBelow (now (t .entry)) n ⌝ }
+{
+    let mut count = 0;
+    let mut k = 0;
+    while k < n {
+        if held(t, k) {
+            count += 1;
+        }
+        k += 1;
+    }
+    count
+}
+
+fn check_counts(t: &[u8], h: Head, n: usize) -> Checked
+    requires { ⌜ Sized h (now t) ⌝ }
+    requires { ⌜ n ≡ layoutOf h .size ⌝ }
+    requires { ⌜ h .delivered ≤ h .taken ⌝ }
+    ensures { λ r. ⌜ r ≡ countsOk h (now (t .entry)) ⌝ }
+{
+    let outstanding = (h.taken - h.delivered) as usize;
+    if outstanding == held_below(t, n) {
+        return Checked::Passes;
+    }
+    Checked::FaultAt(n as u32)
+}
+
+fn check_serials(t: &[u8], h: Head) -> Checked
+    requires { ⌜ Sized h (now t) ⌝ }
+    requires { ⌜ h .delivered ≤ h .taken ⌝ }
+    ensures { λ r. ⌜ r ≡ serialsOk h (now (t .entry)) ⌝ }
+{
+    let n = table::layout::slots_of(h);
+    let f = first_repeat(t, n);
+    let Fault::At(k) = f else {
+        return check_counts(t, h, n);
+    };
+    Checked::FaultAt(k as u32)
+}
+
+// The check of the table `t`, whose trailer is good.
+pub fn check_table(t: &[u8], h: Head) -> Checked
+    requires { ⌜ Sized h (now t) ⌝ }
+    requires { ⌜ h .delivered ≤ h .taken ⌝ }
+    ensures { λ r. ⌜ r ≡ checkedIn h (now (t .entry)) ⌝ }
+{
+    let f = first_spoiled(t, h);
+    let Fault::At(k) = f else {
+        return check_serials(t, h);
+    };
+    Checked::FaultAt(k as u32)
+}
+
+pub fn full_check(s: &[u8]) -> Checked
+    ensures { λ r. ⌜ r ≡ checkedSlice (now (s .entry)) ⌝ }
+{
+    let Headed::Good(h) = table::trailer::trailer(s) else {
+        return Checked::BadTrailer;
+    };
+    let size = h.size;
+    let start = s.len() - size;
+    check_table(&s[start..], h)
+}
