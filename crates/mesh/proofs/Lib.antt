@@ -3,6 +3,7 @@ pub mod Bits
 pub mod Offers
 pub mod Metric
 pub mod Hops
+pub mod Codes
 pub mod Onward
 pub mod Instance
 pub mod Source003

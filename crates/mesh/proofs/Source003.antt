@@ -1,7 +1,6 @@
 -- The rule by signs is the function that source document 003 prints with plain comparisons, for every place, destination and code.
 -- Assumes nothing.
-use Prim.Native.Nat.{ℕ, zero, suc, _+_, _-_}
-use native.Mathlib.Numerals.{unary-clauses}
+use Prim.Native.Nat.{ℕ, _+_, _-_}
 use native.Mathlib.Omega.{arith}
 use mathlib.Core.Path.{_≡_, refl, sym, ap, _∙_}
 use mathlib.Core.Bool.{Bool, true, false, not, cond, _&&_, _||_, and-comm}
@@ -20,6 +19,7 @@ use Rattle.mesh.specs.Published.{published}
 use Rattle.mesh.specs.Mesh.{isCode}
 use Rattle.mesh.proofs.Offers.{compared, signs-are}
 use Rattle.mesh.proofs.Hops.{other-code, unknown-never}
+use Rattle.mesh.proofs.Codes.{by-code}
 
 leb-is : (a b : ℕ) → leb a b ≡ not (ltb b a)
 leb-is a b = go (ltb b a) refl
@@ -35,21 +35,6 @@ eqb-is a b = go (ltb a b) (ltb b a) refl refl
     go true u e f = let g = ltb-true a b e in ne-eqb a b (λ q. omega arith)
     go false true e f = let g = ltb-true b a f in ne-eqb a b (λ q. omega arith)
     go false false e f = let g = ltb-false a b e in let i = ltb-false b a f in eq-eqb a b (omega arith)
-
--- what holds for the seven codes, and for what is no code, holds for every number
-by-code : (P : ℕ → Type 0) → P 1 → P 2 → P 3 → P 4 → P 5 → P 6 → P 7 → ((c : ℕ) → isCode c ≡ false → P c) → (c : ℕ) → P c
-by-code P p1 p2 p3 p4 p5 p6 p7 other zero = other 0 refl
-by-code P p1 p2 p3 p4 p5 p6 p7 other (suc zero) = p1
-by-code P p1 p2 p3 p4 p5 p6 p7 other (suc (suc zero)) = p2
-by-code P p1 p2 p3 p4 p5 p6 p7 other (suc (suc (suc zero))) = p3
-by-code P p1 p2 p3 p4 p5 p6 p7 other (suc (suc (suc (suc zero)))) = p4
-by-code P p1 p2 p3 p4 p5 p6 p7 other (suc (suc (suc (suc (suc zero))))) = p5
-by-code P p1 p2 p3 p4 p5 p6 p7 other (suc (suc (suc (suc (suc (suc zero)))))) = p6
-by-code P p1 p2 p3 p4 p5 p6 p7 other (suc (suc (suc (suc (suc (suc (suc zero))))))) = p7
-by-code P p1 p2 p3 p4 p5 p6 p7 other (suc (suc (suc (suc (suc (suc (suc (suc n)))))))) = other _ (simp unary-clauses at (beyond n))
-  where
-    beyond : (n : ℕ) → isCode (n + 8) ≡ false
-    beyond n = rw (lt-leb (n + 8) 7 (omega arith), le-leb 1 (n + 8) (omega arith))
 
 published-never : (k : Kind) (n d c : ℕ) → isCode c ≡ false → published (at n k) d c ≡ NotOffered
 unfolding published

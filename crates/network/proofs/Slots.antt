@@ -44,7 +44,7 @@ emptied-elsewhere v i k u = rw (ne-eqb k i u)
 
 -- slots as packets in places
 module _ (Y : Layout) (v : View) where
-  held-mem : (i : ℕ) (p : Packet) → i < Y .size → v .at i ≡ held p → List·Memᴰ (itemAt Y i p) (itemsOf Y v)
+  pub held-mem : (i : ℕ) (p : Packet) → i < Y .size → v .at i ≡ held p → List·Memᴰ (itemAt Y i p) (itemsOf Y v)
   held-mem i p h e = mem-collect (λ k. seen Y k (v .at k)) (Y .size) i h (rw e (List·Memᴰ·head refl))
 
   slot-of : (x : Item) → List·Memᴰ x (itemsOf Y v) → (i : ℕ) × (p : Packet) × (i < Y .size) × (v .at i ≡ held p) × (x ≡ itemAt Y i p)

@@ -3,11 +3,12 @@
 use Prim.Native.Nat.{ℕ, zero, suc, _+_, _<_, _≤_}
 use mathlib.Core.Path.{_≡_, refl, sym, ap, _∙_}
 use mathlib.Core.Logic.{_≢_}
-use mathlib.Core.Bool.{true, false, not}
+use mathlib.Core.Bool.{Bool, true, false, not, cond}
 use mathlib.Core.List.{List, [], _++_}
 use native.Mathlib.Omega.{arith}
+use lib.Dec.{eqb}
 use lib.ListN.{getD}
-use borrow.Author.Tests.{leb-false, lt-leb, not-false}
+use borrow.Author.Tests.{leb-false, lt-leb, not-false, eqb-true}
 use Rattle.network.specs.declared.Kind.{Kind}
 use Rattle.network.specs.declared.Place.{Place}
 use Rattle.network.specs.declared.Lead.{Lead}
@@ -207,3 +208,15 @@ module _ (h : Head) (t : List ℕ) (k code : ℕ) (v : Verdict) (e : v ≡ verdi
     hops-fit g =
         let most = good-hops h t k (accepted .named .good) g (accepted .named .inside) in
         rw toward-is (omega (arith, toward-hops h t (layoutOf h .placeOf k) (leadOf h t k code)))
+
+-- the answer's number is the verdict's
+pub moved-number : (h : Head) (t : List ℕ) (k : ℕ) (v : Verdict) → movedBy h t k v .answer .number ≡ v .number
+unfolding handedOut
+moved-number h t k v = go (eqb (v .number) 0) (v .leaves) refl
+  where
+    go : (b l : Bool) → eqb (v .number) 0 ≡ b
+        → cond b (cond l (handedOut h t k) (outcome record { number = 0; slot = v .slot; packet = emptySlot } (carried t k (v .slot) (v .hops))))
+        (outcome (refusal (v .number)) t) .answer .number ≡ v .number
+    go true true e = sym (eqb-true _ _ e)
+    go true false e = sym (eqb-true _ _ e)
+    go false l e = refl

@@ -1,4 +1,4 @@
--- A packet carried from slot a to slot b: the slots after it, the table's length, and what follows the slots.
+-- A packet carried from slot a to slot b: the slots after it, the table's length, what follows the slots, and the trailer.
 -- Assumes nothing.
 use Prim.Native.Nat.{ℕ, _+_, _*_, _≤_, _<_}
 use mathlib.Core.Path.{_≡_, refl, sym, _∙_}
@@ -8,7 +8,13 @@ use native.Mathlib.Omega.{arith}
 use lib.ListN.{length, getD, drop, length-set}
 use Rattle.slots.specs.Slots.{slotAt, withSlot, emptySlot}
 use Rattle.slots.proofs.SlotLaws.{length-slotAt, length-withSlot, slotAt-same, slotAt-other, drop-withSlot}
+use Rattle.table.specs.declared.trailer.Head.{Head}
+use Rattle.table.specs.declared.trailer.Headed.the-variants.{Good}
+use Rattle.table.specs.Trailer.{trailerOf}
+use Rattle.table.specs.Layout.{layoutOf}
 use Rattle.table.specs.Carriage.{hop, left, carried}
+use Rattle.table.proofs.Places.{slot-fits}
+use Rattle.table.proofs.TrailerLaws.{table-sized, trailer-withSlot}
 
 pub length-hop : (v : List ℕ) (more : ℕ) → length (hop v more) ≡ length v
 length-hop v more = length-set v 3 (getD v 3 0 + more)
@@ -63,3 +69,19 @@ drop-carried n t a b more ha hb l =
     let m = hopped-length t a b more (omega arith) (omega arith) in
     let e = halfway t a b more (omega arith) (omega arith) in
     drop-left n _ a ha (omega arith) ∙ drop-withSlot n t b _ hb l m
+
+-- the trailer is kept
+module _ (t : List ℕ) {h : Head} (e : trailerOf t ≡ Good h) (l : length t ≡ h .size) where
+  pub trailer-left : (k : ℕ) → k < layoutOf h .size → trailerOf (left t k) ≡ Good h
+  unfolding left layoutOf
+  trailer-left k u = trailer-withSlot t k emptySlot e l u refl
+
+pub trailer-carried : (t : List ℕ) {h : Head} → trailerOf t ≡ Good h → length t ≡ h .size → (a b more : ℕ)
+    → a < layoutOf h .size → b < layoutOf h .size → trailerOf (carried t a b more) ≡ Good h
+unfolding carried layoutOf
+trailer-carried t e l a b more u w =
+    let z = table-sized t e l in
+    let fa = slot-fits z a u in
+    let fb = slot-fits z b w in
+    let n = hopped-length t a b more fa fb in
+    trailer-left (withSlot t b (hop (slotAt t a) more)) (trailer-withSlot t b (hop (slotAt t a) more) e l w n) (halfway t a b more fa fb ∙ l) a u
