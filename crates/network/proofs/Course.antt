@@ -1,19 +1,18 @@
 -- One packet's move: it stays good, grows lighter, and is bound for the same delivery.
 -- Assumes nothing.
 use mathlib.Core.Path.{_≡_, refl, sym, ap, subst, _∙_}
-use mathlib.Core.Bool.{Bool, true, _&&_}
+use mathlib.Core.Bool.{true}
 use Prim.Native.Nat.{ℕ, suc, _+_, _<_}
 use native.Mathlib.Omega.{arith}
-use lib.Dec.{ltb, eqb}
 use borrow.Author.Tests.{ltb-true, eqb-true, lt-ltb, eq-eqb}
 use Rattle.network.specs.declared.Kind.{Kind}
 use Rattle.network.specs.declared.Kind.the-variants.{Waiting, A, B}
 use Rattle.network.specs.declared.Lead.the-variants.{Hop, Turn, Out}
 use Rattle.network.specs.Net.{Net, NetLaws, RuleLaws, at, beside}
-use Rattle.network.specs.Packet.{Packet, Item, Delivery, fitsKind, good, Good, offer, withHops, hopped, turned, handed, weight, bound}
+use Rattle.network.specs.Packet.{Item, fitsKind, good, Good, offer, withHops, hopped, turned, handed, weight, bound}
 use Rattle.network.specs.Contents.{serialOf}
 use Rattle.network.specs.Machine.{Led, by-hop, by-turn}
-use Rattle.network.proofs.Tests.{and-l, and-r, and-both, clash}
+use Rattle.network.proofs.Tests.{and-l, and-r, and-both}
 
 -- the test and its meaning
 module _ (N : Net) (taken delivered : ℕ) (x : Item) where
@@ -63,7 +62,8 @@ module _ (N : Net) (L : NetLaws N) (taken delivered : ℕ) (x : Item) (g : Good 
 
   hopped-good : (n : ℕ) → offer N x code ≡ Hop n → Good N taken delivered (hopped x n)
   hopped-good n e =
-      let short : N .distance (x .packet .source) (x .place .node) + N .distance (x .place .node) (x .packet .destination) ≡ N .distance (x .packet .source) (x .packet .destination) = omega (arith, g .made, g .left) in
+      let short : N .distance (x .packet .source) (x .place .node) + N .distance (x .place .node) (x .packet .destination)
+      ≡ N .distance (x .packet .source) (x .packet .destination) = omega (arith, g .made, g .left) in
       let far = hop-farther N L (x .packet .source) (x .place .node) (x .packet .destination) (g .here) (g .to) short (x .place .kind) code n e in
       let near = hop-shortest N L (x .packet .source) (x .place .node) (x .packet .destination) (g .here) (g .to) short (x .place .kind) code n e in
       record {

@@ -3,9 +3,8 @@
 use mathlib.Core.Path.{_≡_, refl, sym}
 use mathlib.Core.List.{List, [], _∷_, _++_, map, List·Memᴰ, List·Memᴰ·head, append-nil}
 use mathlib.Core.List.{List·Permᴰ, List·Permᴰ·cons, List·Permᴰ·trans, Permᴰ·refl, Permᴰ·symm}
-use Prim.Native.Nat.{ℕ, suc, _+_, _≤_, _<_}
+use Prim.Native.Nat.{_+_, _≤_, _<_}
 use native.Mathlib.Omega.{arith}
-use Rattle.network.specs.Lists.{total, All}
 use Rattle.network.specs.Net.{Net, NetLaws}
 use Rattle.network.specs.Packet.{Item, Delivery, Good, weight, bound}
 use Rattle.network.specs.Contents.{Contents, Passing}

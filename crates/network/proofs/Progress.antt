@@ -3,7 +3,7 @@
 use mathlib.Core.Path.{_≡_, refl, ap, _∙_}
 use mathlib.Core.Logic.{_⊎_, inl, inr}
 use mathlib.Core.List.{List, List·Memᴰ}
-use Prim.Native.Nat.{ℕ, _<_, _≤_}
+use Prim.Native.Nat.{ℕ, _≤_}
 use native.Mathlib.Omega.{arith}
 use native.Mathlib.Nat.{le-trans}
 use native.Mathlib.Decide.{decLe}
@@ -11,7 +11,6 @@ use Rattle.network.specs.declared.Kind.{Kind}
 use Rattle.network.specs.declared.Kind.the-variants.{Waiting, A, B}
 use Rattle.network.specs.declared.Place.{Place}
 use Rattle.network.specs.declared.Lead.{Lead}
-use Rattle.network.specs.declared.Lead.the-variants.{Hop, Turn, Out}
 use Rattle.network.specs.Lists.{All}
 use Rattle.network.specs.Net.{Net, NetLaws, RuleLaws, at}
 use Rattle.network.specs.Packet.{Item, Good, offer}

@@ -1,22 +1,20 @@
 -- A table's slots and its packets in places: one move of a packet between slots is one step of a packet, so a table that moves so is a machine.
 -- Assumes nothing.
-use mathlib.Core.Path.{_≡_, refl, sym, ap, subst, _∙_}
-use mathlib.Core.Bool.{Bool, true, false, cond}
+use mathlib.Core.Path.{_≡_, refl, sym, subst, _∙_}
+use mathlib.Core.Bool.{true, cond}
 use mathlib.Core.Logic.{_≢_}
-use mathlib.Core.List.{List, [], _∷_, List·Memᴰ, List·Memᴰ·head, List·Memᴰ·eq-of-singleton, List·Permᴰ}
-use Prim.Native.Nat.{ℕ, zero, suc, _+_, _<_}
-use native.Mathlib.Omega.{arith}
+use mathlib.Core.List.{List, _∷_, List·Memᴰ, List·Memᴰ·head, List·Memᴰ·eq-of-singleton, List·Permᴰ}
+use Prim.Native.Nat.{ℕ, _+_, _<_}
 use native.Mathlib.Decide.{ℕ-discrete}
 use lib.Dec.{eqb}
 use borrow.Author.Tests.{eq-eqb, ne-eqb}
 use Rattle.network.specs.declared.Place.{Place}
-use Rattle.network.specs.Lists.{All, collect}
 use Rattle.network.specs.Net.{Net, NetLaws, at}
 use Rattle.network.specs.Packet.{Packet, Item, Delivery, Good}
-use Rattle.network.specs.Contents.{Contents, Passing}
+use Rattle.network.specs.Contents.{Passing}
 use Rattle.network.specs.View.{Slot, empty, held, Layout, LayoutLaws, View, itemAt, seen, itemsOf, contents}
-use Rattle.network.specs.Run.{Answer, moved, delivered, Accepted}
-use Rattle.network.specs.Machine.{Led, Stepped, Left, Open, leaves, hops, turns, Vacant, Machine}
+use Rattle.network.specs.Run.{Answer, delivered}
+use Rattle.network.specs.Machine.{Stepped, Left, Open, leaves, hops, turns, Vacant, Machine}
 use Rattle.network.specs.Table.{Carried, HandedOut, HasRoom, TableMachine}
 use Rattle.network.specs.Drain.{Drains}
 use Rattle.network.proofs.Tests.{clash}

@@ -7,7 +7,7 @@ use Rattle.network.specs.Lists.{total}
 use Rattle.network.specs.Net.{Net}
 use Rattle.network.specs.Packet.{Item, Delivery, weight, bound}
 use Rattle.network.specs.Contents.{Contents, Passing}
-use Rattle.network.specs.Run.{Answer, Trace, trace, Accepted}
+use Rattle.network.specs.Run.{Answer, trace, Accepted}
 
 -- demand 3's sum
 abbrev pub sum : Net → Contents → ℕ

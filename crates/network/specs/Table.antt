@@ -8,7 +8,7 @@ use Rattle.network.specs.declared.Lead.the-variants.{Out}
 use Rattle.network.specs.Net.{Net}
 use Rattle.network.specs.Packet.{Packet, Delivery, offer, handed}
 use Rattle.network.specs.Contents.{Passing}
-use Rattle.network.specs.View.{Slot, empty, held, Layout, View, itemAt, contents}
+use Rattle.network.specs.View.{empty, held, Layout, View, itemAt, contents}
 use Rattle.network.specs.Run.{Answer, moved, delivered, Accepted}
 use Rattle.network.specs.Machine.{Led, Open}
 

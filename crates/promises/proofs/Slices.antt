@@ -1,22 +1,22 @@
 -- The router's moves on a slice are a table machine's, so demand 3 holds of slices under proposed moves.
 -- Assumes nothing.
-use Prim.Native.Nat.{ℕ, suc, _+_, _-_, _*_, _<_, _≤_, _^_}
-use mathlib.Core.Path.{_≡_, refl, sym, ap, subst, _∙_}
+use Prim.Native.Nat.{ℕ, _+_, _-_, _<_, _^_}
+use mathlib.Core.Path.{_≡_, refl, sym, ap, _∙_}
 use mathlib.Core.Logic.{_≢_}
 use mathlib.Core.Bool.{Bool, true, false, cond}
-use mathlib.Core.List.{List, [], _∷_, _++_}
+use mathlib.Core.List.{List, _++_}
 use native.Mathlib.Omega.{arith}
 use lib.Dec.{eqb}
 use lib.ListN.{length, take, drop, length-append}
-use lib.Seq.{drop-at, length-take-le}
+use lib.Seq.{drop-at}
 use borrow.Author.Tests.{eqb-true, eqb-false, eq-eqb}
 use Rattle.network.specs.declared.Place.{Place}
 use Rattle.network.specs.declared.Lead.{Lead}
 use Rattle.network.specs.declared.Lead.the-variants.{Hop, Turn, Out, NotOffered}
-use Rattle.network.specs.Packet.{Packet, Item, Delivery, Good as GoodPacket, handed}
+use Rattle.network.specs.Packet.{Packet, Delivery, Good as GoodPacket, handed}
 use Rattle.network.specs.View.{held, View, itemAt, contents}
 use Rattle.network.specs.Contents.{Passing}
-use Rattle.network.specs.Run.{Answer, unchanged, moved, delivered, Accepted}
+use Rattle.network.specs.Run.{unchanged, moved, delivered, Accepted}
 use Rattle.network.specs.Machine.{Open}
 use Rattle.network.specs.Table.{Carried, HandedOut, HasRoom, TableMachine}
 use Rattle.network.specs.Drain.{Drains}
@@ -28,19 +28,18 @@ use Rattle.mesh.specs.declared.Step.the-variants.{Deliver}
 use Rattle.mesh.specs.Rule.{stepOf, signsOf, offers, ruled}
 use Rattle.mesh.proofs.Codes.{out-code}
 use Rattle.mesh.proofs.Instance.{mesh-laws}
-use Rattle.slots.specs.Slots.{slotAt, emptySlot}
-use Rattle.slots.proofs.SlotLaws.{length-slotAt, length-withSlot}
+use Rattle.slots.specs.Slots.{slotAt}
 use Rattle.table.specs.declared.trailer.Head.{Head}
 use Rattle.table.specs.declared.trailer.Headed.the-variants.{Good}
 use Rattle.table.specs.Trailer.{trailerOf, Sized, withDelivered}
 use Rattle.table.specs.Layout.{netOf, layoutOf}
 use Rattle.table.specs.Packets.{packetOf, viewOf, itemIn, goodAt}
-use Rattle.table.specs.Carriage.{hop, left, carried}
-use Rattle.table.proofs.TrailerLaws.{delivering, trailer-after, trailer-good, trailer-table, trailer-sized, length-table, trailer-withSlot, trailer-withDelivered, length-withDelivered}
+use Rattle.table.specs.Carriage.{left, carried}
+use Rattle.table.proofs.TrailerLaws.{delivering, trailer-after, trailer-table, trailer-sized, length-table, trailer-withDelivered, length-withDelivered}
 use Rattle.table.proofs.CarriageLaws.{length-left, length-carried, trailer-left, trailer-carried}
 use Rattle.table.proofs.Places.{layout-laws, slot-fits}
 use Rattle.router.specs.declared.moving.Moved.{Moved}
-use Rattle.router.specs.Outcome.{Outcome, outcome, after}
+use Rattle.router.specs.Outcome.{Outcome, after}
 use Rattle.router.specs.declared.moving.Verdict.{Verdict}
 use Rattle.router.specs.Move.{barred, leadOf, toward, verdictOf, handedOut, movedIn, movedInSlice}
 use Rattle.router.proofs.OnTable.{on-table-good}

@@ -3,29 +3,28 @@
 use Prim.Native.Nat.{ℕ, _+_, _-_, _*_, _<_, _≤_}
 use mathlib.Core.Path.{_≡_, refl, sym, ap, subst, _∙_}
 use mathlib.Core.Logic.{_≢_}
-use mathlib.Core.Bool.{Bool, true, false, not, cond}
+use mathlib.Core.Bool.{Bool, true, false, cond}
 use mathlib.Core.List.{List, [], _∷_}
 use native.Mathlib.Omega.{arith}
 use native.Mathlib.Nat.{add-zero}
 use native.Mathlib.Numerals.{add-one}
-use lib.ListN.{length, getD, set}
+use lib.ListN.{length, getD}
 use lib.Seq.{getD-set-other}
 use Rattle.network.specs.declared.Place.{Place}
 use Rattle.network.specs.declared.Lead.{Lead}
 use Rattle.network.specs.declared.Lead.the-variants.{Hop, Turn, Out, NotOffered}
 use Rattle.network.specs.Net.{at}
-use Rattle.network.specs.Packet.{Packet, Item, Delivery, withHops, hopped, turned, handed, offer}
+use Rattle.network.specs.Packet.{Packet, Item, withHops, handed}
 use Rattle.network.specs.View.{empty, held, Layout, itemAt}
 use Rattle.network.specs.Machine.{Led, by-hop, by-turn, Open, leaves, hops, turns}
 use Rattle.network.specs.Table.{Carried, HandedOut, HasRoom}
 use Rattle.network.proofs.Tests.{clash, cond-true, cond-false}
 use Rattle.mesh.proofs.Hops.{unknown-never}
-use Rattle.slots.specs.Slots.{slotAt, withSlot, emptySlot, zeros}
+use Rattle.slots.specs.Slots.{slotAt, zeros}
 use Rattle.slots.proofs.SlotLaws.{length-slotAt}
 use Rattle.table.specs.declared.trailer.Head.{Head}
-use Rattle.table.specs.declared.trailer.Headed.the-variants.{Good}
 use Rattle.table.specs.declared.queues.Room.the-variants.{At}
-use Rattle.table.specs.Trailer.{trailerOf, Sized, withDelivered}
+use Rattle.table.specs.Trailer.{Sized, withDelivered}
 use Rattle.table.specs.Layout.{GoodHead, netOf, layoutOf}
 use Rattle.table.specs.Packets.{packetOf, slotOf, viewOf, itemIn, goodAt}
 use Rattle.table.specs.Queues.{roomAt, isFull, Lowest}
@@ -35,8 +34,7 @@ use Rattle.table.proofs.QueueLaws.{room-lowest, room-within, some-room}
 use Rattle.table.proofs.PacketLaws.{mark-not-zero}
 use Rattle.table.proofs.CarriageLaws.{carried-from, carried-to, carried-other, left-there, left-other, length-left}
 use Rattle.table.proofs.TrailerLaws.{delivering, slotAt-withDelivered}
-use Rattle.router.specs.declared.moving.Verdict.{Verdict}
-use Rattle.router.specs.Move.{leadOf, barred, blocked, toward, verdictOf}
+use Rattle.router.specs.Move.{leadOf, barred, toward, verdictOf}
 use Rattle.router.proofs.MoveLaws.{Named, Accepted, verdict-accepts, accepts-verdict, named-good, hop-room, turn-room, goes}
 
 -- ---- a packet's record with more hops

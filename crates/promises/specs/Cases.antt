@@ -9,8 +9,7 @@ use Rattle.network.specs.declared.Place.{Place}
 use Rattle.network.specs.declared.Lead.{Lead}
 use Rattle.network.specs.declared.Lead.the-variants.{Hop, Turn, Out, NotOffered}
 use Rattle.network.specs.Net.{Net, at}
-use Rattle.network.specs.Packet.{Packet, Item, Delivery, offer, hopped, turned, handed}
-use Rattle.network.specs.Contents.{Contents}
+use Rattle.network.specs.Packet.{Item, Delivery, offer, hopped, turned, handed}
 use Rattle.network.specs.Drain.{sum}
 use Rattle.mesh.specs.Grid.{node, xOf, yOf}
 use Rattle.mesh.specs.Mesh.{mesh}

@@ -6,7 +6,6 @@ use mathlib.Core.Path.{_≡_}
 use mathlib.Core.Bool.{Bool, true, false, not, cond}
 use mathlib.Core.List.{List, [], _∷_, _++_}
 use lib.Dec.{leb, eqb}
-use Rattle.network.specs.declared.Kind.{Kind}
 use Rattle.network.specs.declared.Place.{Place}
 use Rattle.network.specs.declared.Lead.{Lead}
 use Rattle.network.specs.declared.Lead.the-variants.{Hop, Turn, Out, NotOffered}
@@ -14,8 +13,6 @@ use Rattle.network.specs.Net.{Net, at}
 use Rattle.network.specs.Packet.{offer}
 use Rattle.slots.specs.Slots.{slotAt, emptySlot, zeros}
 use Rattle.table.specs.declared.trailer.Head.{Head}
-use Rattle.table.specs.declared.queues.Room.{Room}
-use Rattle.table.specs.declared.queues.Room.the-variants.{At, Full}
 use Rattle.table.specs.Refusals.{Row, row, firstDue, trailer-not-good, out-of-range, slot-empty, slot-spoiled, not-offered, no-room}
 use Rattle.table.specs.Trailer.{withDelivered}
 use Rattle.table.specs.Layout.{netOf, layoutOf}

@@ -1,5 +1,4 @@
 // The move: a proposed code for the packet of a slot. The verdict is read first; then the move does that one step.
-use network::Kind;
 use network::Lead;
 use network::Place;
 use table::queues::Room;
@@ -8,14 +7,10 @@ use table::trailer::Headed;
 ghost use mathlib.Core.Path.{_≡_};
 ghost use mathlib.Core.Bool.{true};
 ghost use Prim.Native.Nat.{_<_};
-ghost use lib.ListN.{getD};
-ghost use Rattle.network.specs.Net.{at};
-ghost use Rattle.slots.specs.Slots.{slotAt};
 ghost use Rattle.table.specs.Trailer.{Sized};
 ghost use Rattle.table.specs.Layout.{layoutOf, netOf};
-ghost use Rattle.table.specs.Packets.{goodAt, itemIn};
 ghost use Rattle.router.specs.Outcome.{outcome};
-ghost use Rattle.router.specs.Move.{refusal, slotDue, refusedBy, toQueue, ahead, verdictOf, Goes, handedOut, movedBy, movedIn, movedInSlice};
+ghost use Rattle.router.specs.Move.{refusal, slotDue, refusedBy, toQueue, ahead, verdictOf, Goes, handedOut, movedIn, movedInSlice};
 
 pub struct Moved {
     pub number: u32,

@@ -4,7 +4,7 @@ use table::trailer::Head;
 use table::trailer::Headed;
 ghost use mathlib.Core.Path.{_≡_};
 ghost use Prim.Native.Nat.{_+_, _*_, _≤_, _<_};
-ghost use lib.ListN.{length, getD};
+ghost use lib.ListN.{length};
 ghost use Rattle.table.specs.Trailer.{Sized};
 ghost use Rattle.router.specs.Outcome.{outcome};
 ghost use Rattle.survey.specs.Copy.{shownAt, veiled, refusalOf, copiedIn, copiedSlice};

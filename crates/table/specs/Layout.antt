@@ -6,7 +6,6 @@ use mathlib.Core.Bool.{cond}
 use lib.Dec.{leb, eqb}
 use Rattle.network.specs.declared.Kind.{Kind}
 use Rattle.network.specs.declared.Kind.the-variants.{Waiting, A, B}
-use Rattle.network.specs.declared.Place.{Place}
 use Rattle.network.specs.Net.{Net, at}
 use Rattle.network.specs.View.{Layout}
 use Rattle.mesh.specs.Grid.{xOf, yOf}

@@ -3,10 +3,8 @@ use crate::trailer::Head;
 use network::Kind;
 use network::Place;
 ghost use mathlib.Core.Path.{_≡_};
-ghost use mathlib.Core.Bool.{true};
 ghost use Prim.Native.Nat.{_≤_, _<_};
-ghost use Rattle.table.specs.Trailer.{Dims};
-ghost use Rattle.table.specs.Layout.{GoodHead, kindOf, offset, roomOf, nodeOf, layoutOf, netOf};
+ghost use Rattle.table.specs.Layout.{GoodHead, kindOf, offset, nodeOf, layoutOf, netOf};
 
 pub fn slots_of(h: Head) -> usize
     requires { ⌜ GoodHead h ⌝ }
