@@ -1,3 +1,4 @@
 pub mod Cases
 pub mod Steps
 pub mod Slices
+pub mod Checked

@@ -1,10 +1,11 @@
 -- A lent slice as a state that answers proposed moves: what it shows, and what a move makes of it.
 -- Assumes nothing.
-use Prim.Native.Nat.{ℕ, _-_}
+use Prim.Native.Nat.{ℕ, _-_, _<_}
 use mathlib.Core.Bool.{cond}
 use mathlib.Core.List.{List}
 use lib.Dec.{eqb}
 use lib.ListN.{length, drop}
+use Rattle.network.specs.Lists.{All}
 use Rattle.network.specs.View.{empty, View}
 use Rattle.network.specs.Run.{Answer, unchanged, moved, delivered}
 use Rattle.table.specs.declared.trailer.Headed.{Headed}
@@ -14,6 +15,10 @@ use Rattle.table.specs.Layout.{layoutOf}
 use Rattle.table.specs.Packets.{packetOf, viewOf}
 use Rattle.router.specs.declared.moving.Moved.{Moved}
 use Rattle.router.specs.Outcome.{Outcome}
+
+-- what can be lent: a list of bytes
+abbrev pub Bytes : List ℕ → Type 0
+Bytes s = All (λ (x : ℕ). x < 256) s
 
 -- the slots and counts of the table in a slice; where the trailer is not good, nothing
 abbrev pub seenBy : List ℕ → Headed → View
