@@ -1,8 +1,7 @@
 -- Find's definitions: a turn of each loop, and what each answer means. Both searches are searches for the lowest number with a property.
 -- Assumes nothing.
-use Prim.Native.Nat.{ℕ, zero, suc, _+_, _-_, _≤_, _<_}
+use Prim.Native.Nat.{ℕ, zero, suc, _+_, _-_, _<_}
 use mathlib.Core.Path.{_≡_, refl, sym, ap, _∙_}
-use mathlib.Core.Logic.{_≢_}
 use mathlib.Core.List.{List}
 use mathlib.Core.Bool.{Bool, true, false, cond}
 use native.Mathlib.Omega.{arith}
@@ -19,7 +18,7 @@ use Rattle.survey.specs.declared.finding.Accepted.the-variants.{Code, No
 use Rattle.survey.specs.declared.finding.Found.{Found}
 use Rattle.survey.specs.declared.finding.Found.the-variants.{Move, NothingHeld}
 use Rattle.survey.specs.Check.{firstOf, LowestWith}
-use Rattle.survey.specs.Find.{firstCode, orNext, firstMove}
+use Rattle.survey.specs.Find.{firstCode, orNext, firstMove, Acceptable, Stuck, Lowest}
 use Rattle.survey.proofs.CheckLaws.{first-lowest, first-none, none-first}
 
 -- ---- a turn of each loop
@@ -38,22 +37,6 @@ module _ (h : Head) (t : List ℕ) where
       ap (firstMove h t k) q ∙ rw add-one (ap (λ (a : Accepted). orNext k a (firstMove h t (suc k) (e - suc k))) f)
 
 -- ---- what the answers mean
-
--- the move of that slot, one of n, by that code is accepted
-pub record Acceptable (h : Head) (t : List ℕ) (n slot code : ℕ) : Type 0 where
-  pub inside : slot < n
-  pub code-low : 1 ≤ code
-  pub code-high : code ≤ 7
-  pub accepted : verdictOf h t slot code .number ≡ 0
-
--- no code from 1 to below the end is accepted for the slot
-pub record Stuck (h : Head) (t : List ℕ) (end slot : ℕ) : Type 0 where
-  pub refused : (code : ℕ) → 1 ≤ code → code < end → verdictOf h t slot code .number ≢ 0
-
--- nothing below the slot and its code is accepted
-pub record Lowest (h : Head) (t : List ℕ) (slot code : ℕ) : Type 0 where
-  pub lower-slots : (j : ℕ) → j < slot → Stuck h t 8 j
-  pub lower-codes : Stuck h t code slot
 
 -- a search's answer as a Bool, and as a code
 abbrev some : Fault → Bool

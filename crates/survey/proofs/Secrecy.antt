@@ -1,16 +1,14 @@
--- Document 01's secrecy: two tables that differ only in payloads of slots held in both and in bytes before the table, with equal second
--- buffers before the call, give the same answer and copy.
+-- Document 01's secrecy: two slices that are alike, with equal second buffers before the call, give the same answer and copy.
 -- Assumes nothing.
-use Prim.Native.Nat.{ℕ, _+_, _-_, _*_, _<_}
+use Prim.Native.Nat.{ℕ, _+_, _-_, _*_}
 use mathlib.Core.Path.{_≡_, refl, sym, ap, _∙_}
 use mathlib.Core.Logic.{_⊎_, ⊎-elim}
 use mathlib.Core.List.{List, _++_}
-use mathlib.Core.Bool.{false}
 use native.Mathlib.Omega.{arith}
 use lib.ListN.{length, take, drop, replicate, length-append}
 use lib.Seq.{drop-at}
 use Rattle.slots.specs.Bytes.{le32}
-use Rattle.slots.specs.Slots.{slotAt, zeros}
+use Rattle.slots.specs.Slots.{zeros}
 use Rattle.slots.proofs.SlotLaws.{slots-ext}
 use Rattle.table.specs.declared.trailer.Head.{Head}
 use Rattle.table.specs.declared.trailer.Headed.{Headed}
@@ -22,25 +20,9 @@ use Rattle.survey.specs.declared.checking.Checked.{Checked}
 use Rattle.survey.specs.declared.checking.Checked.the-variants.{Passes, BadTrailer, FaultAt}
 use Rattle.survey.specs.Check.{checkedIn}
 use Rattle.survey.specs.Copy.{veiled, copiedAfter, copiedIn, copiedBy, copiedSlice}
+use Rattle.survey.specs.Secrecy.{SameButPayloads, Alike, tables, neither}
 use Rattle.survey.proofs.CopyLaws.{veiled-slot, veiled-end}
 use Rattle.survey.proofs.Sight.{SeenSame, check-same}
-
--- a slot's bytes in two tables: the same, or held in both and the same but for the payload
-abbrev pub SameButPayload : List ℕ → List ℕ → Type 0
-SameButPayload v w = (v ≡ w) ⊎ ((zeros v ≡ false) × (zeros w ≡ false) × (take 8 v ≡ take 8 w))
-
--- two tables of n slots, with one trailer, whose distance leads back to the table's first byte
-pub record SameButPayloads (n : ℕ) (t w : List ℕ) : Type 0 where
-  pub full : length t ≡ 16 * n + 16
-  pub full-too : length w ≡ 16 * n + 16
-  pub slots : (k : ℕ) → k < n → SameButPayload (slotAt t k) (slotAt w k)
-  pub trailer : drop (16 * n) t ≡ drop (16 * n) w
-  pub distance : le32 (drop (16 * n) t) 12 ≡ length t
-
--- two slices that end with such tables, or that have none
-pub data Alike : List ℕ → List ℕ → Type 0 where
-  tables : (p q : List ℕ) {n : ℕ} {t w : List ℕ} → SameButPayloads n t w → Alike (p ++ t) (q ++ w)
-  neither : {s u : List ℕ} → trailerOf s ≡ Bad → trailerOf u ≡ Bad → Alike s u
 
 -- the table of a slice that ends with it
 table-of : (p t : List ℕ) (m : ℕ) → m ≡ length t → drop (length (p ++ t) - m) (p ++ t) ≡ t

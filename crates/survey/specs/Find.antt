@@ -1,6 +1,8 @@
 -- Find: 1, 10, then 11. Otherwise the lowest slot, and for it the lowest code, whose move would be accepted.
 -- Assumes nothing.
-use Prim.Native.Nat.{ℕ, zero, suc, _-_}
+use Prim.Native.Nat.{ℕ, zero, suc, _-_, _≤_, _<_}
+use mathlib.Core.Path.{_≡_}
+use mathlib.Core.Logic.{_≢_}
 use mathlib.Core.List.{List}
 use mathlib.Core.Bool.{cond}
 use lib.Dec.{eqb}
@@ -33,6 +35,22 @@ orNext slot Nothing next = next
 abbrev pub firstMove : Head → List ℕ → ℕ → ℕ → Found
 firstMove h t slot zero = found.NothingHeld
 firstMove h t slot (suc n) = orNext slot (firstCode h t slot 1 7) (firstMove h t (suc slot) n)
+
+-- the move of that slot, one of n, by that code is accepted
+pub record Acceptable (h : Head) (t : List ℕ) (n slot code : ℕ) : Type 0 where
+  pub inside : slot < n
+  pub code-low : 1 ≤ code
+  pub code-high : code ≤ 7
+  pub accepted : verdictOf h t slot code .number ≡ 0
+
+-- no code from 1 to below the end is accepted for the slot
+pub record Stuck (h : Head) (t : List ℕ) (end slot : ℕ) : Type 0 where
+  pub refused : (code : ℕ) → 1 ≤ code → code < end → verdictOf h t slot code .number ≢ 0
+
+-- nothing below the slot and its code is accepted
+pub record Lowest (h : Head) (t : List ℕ) (slot code : ℕ) : Type 0 where
+  pub lower-slots : (j : ℕ) → j < slot → Stuck h t 8 j
+  pub lower-codes : Stuck h t code slot
 
 abbrev pub refusalOf : Checked → Found
 refusalOf Passes = found.NothingHeld
