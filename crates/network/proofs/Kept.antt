@@ -1,8 +1,8 @@
--- A table that passes still passes after one packet's step, and after one has been handed out.
+-- A table that passes still passes after one packet's step, after one has been handed out, and after one has come in with the next serial.
 -- Assumes nothing.
 use mathlib.Core.Path.{_≡_}
-use mathlib.Core.List.{List, [], _∷_, map, Permᴰ·symm}
-use Prim.Native.Nat.{ℕ, _+_, _<_}
+use mathlib.Core.List.{List, [], _∷_, map, List·Permᴰ, Permᴰ·symm}
+use Prim.Native.Nat.{ℕ, suc, _+_, _<_}
 use native.Mathlib.Omega.{arith}
 use lib.ListN.{length}
 use Rattle.network.specs.Lists.{All, Distinct}
@@ -10,7 +10,7 @@ use Rattle.network.specs.Net.{Net, NetLaws}
 use Rattle.network.specs.Packet.{Item, Delivery, Good}
 use Rattle.network.specs.Contents.{Contents, Passing, serialOf}
 use Rattle.network.specs.Machine.{Stepped, Left}
-use Rattle.network.proofs.Lists.{all-perm, all-map, length-perm, map-perm, distinct-perm}
+use Rattle.network.proofs.Lists.{all-perm, all-map, all-images, length-perm, map-perm, distinct-perm}
 use Rattle.network.proofs.Course.{led-good, led-serial}
 
 -- a packet stays good while fewer are delivered than taken
@@ -22,6 +22,20 @@ still-due N taken d d′ h x g = record {
   to = g .to;
   numbered = g .numbered;
   due = h;
+  made = g .made;
+  left = g .left;
+  fits = g .fits;
+}
+
+-- and while more are taken in
+still-good : (N : Net) (taken d : ℕ) (x : Item) → Good N taken d x → Good N (suc taken) d x
+still-good N taken d x g = record {
+  here = g .here;
+  marked = g .marked;
+  from = g .from;
+  to = g .to;
+  numbered = omega (arith, g .numbered);
+  due = omega (arith, g .due);
   made = g .made;
   left = g .left;
   fits = g .fits;
@@ -53,4 +67,17 @@ module _ (N : Net) (b b′ : Contents) (P : Passing N b) where
         sound = rw (s .taken) (all-due N (b .taken) (b .delivered) (b′ .delivered) (b′ .items) count (all .1));
         distinct = serials .1;
         counted = omega (arith, s .taken);
+      }
+
+  -- the packets there already have lower serials
+  pub entered-passing : (x : Item) → Good N (suc (b .taken)) (b .delivered) x → serialOf x ≡ b .taken → List·Permᴰ (b′ .items) (x ∷ b .items)
+      → b′ .taken ≡ suc (b .taken) → b′ .delivered ≡ b .delivered → Passing N b′
+  entered-passing x g new is more same =
+      let old : All (λ (y : Item). serialOf x ≡ serialOf y → ⊥) (b .items) =
+      all-map (λ y u q. omega (arith, u .numbered, new, q)) (b .items) (P .sound) in
+      let all = all-map (still-good N (b .taken) (b .delivered)) (b .items) (P .sound) in
+      record {
+        sound = rw (more, same) (all-perm (Good N (suc (b .taken)) (b .delivered)) (Permᴰ·symm is) (g, all));
+        distinct = distinct-perm (Permᴰ·symm (map-perm serialOf is)) (all-images (λ (u : ℕ). serialOf x ≡ u → ⊥) serialOf (b .items) old, P .distinct);
+        counted = omega (arith, P .counted, length-perm is, more, same);
       }

@@ -13,18 +13,18 @@ use Rattle.network.specs.Net.{Net, NetLaws, at}
 use Rattle.network.specs.Packet.{Packet, Item, Delivery, Good}
 use Rattle.network.specs.Contents.{Passing}
 use Rattle.network.specs.View.{Slot, empty, held, Layout, LayoutLaws, View, itemAt, seen, itemsOf, contents}
-use Rattle.network.specs.Run.{Answer, delivered}
+use Rattle.network.specs.Run.{Answer, delivered, trace}
 use Rattle.network.specs.Machine.{Stepped, Left, Open, leaves, hops, turns, Vacant, Machine}
 use Rattle.network.specs.Table.{Carried, HandedOut, HasRoom, TableMachine}
 use Rattle.network.specs.Drain.{Drains}
 use Rattle.network.proofs.Tests.{clash}
 use Rattle.network.proofs.Lists.{take-out, collect-mem, mem-collect, all-mem}
-use Rattle.network.proofs.Drain.{drains}
+use Rattle.network.proofs.Drain.{drains, still-fit}
 
--- the packet of slot i taken out
+-- the packet of slot i taken out; or, the other way, come into the empty slot i
 module _ (Y : Layout) (v w : View) (i : ℕ) (p : Packet) (inside : i < Y .size) (was : v .at i ≡ held p) (gone : w .at i ≡ empty)
     (rest : (k : ℕ) → k < Y .size → k ≢ i → w .at k ≡ v .at k) where
-  items-without : List·Permᴰ (itemsOf Y v) (itemAt Y i p ∷ itemsOf Y w)
+  pub items-without : List·Permᴰ (itemsOf Y v) (itemAt Y i p ∷ itemsOf Y w)
   items-without =
       take-out (λ k. seen Y k (v .at k)) (λ k. seen Y k (w .at k)) i (Y .size) (itemAt Y i p) inside (rw was) (rw gone) (λ k h u. rw (rest k h u))
 
@@ -123,3 +123,7 @@ module _ (N : Net) (L : NetLaws N) (Y : Layout) (K : LayoutLaws N Y) {S C : Type
   -- demand 3 for tables
   pub table-drains : (s : S) → Fit s → Passing N (contents Y (see s)) → (calls : List C) → Drains N (λ t. contents Y (see t)) answer s calls
   table-drains = drains N L (λ s. contents Y (see s)) Fit answer table-machine
+
+  -- and the state at the end is a table still
+  pub table-fit : (s : S) → Fit s → Passing N (contents Y (see s)) → (calls : List C) → Fit (trace answer s calls .last)
+  table-fit = still-fit N L (λ s. contents Y (see s)) Fit answer table-machine

@@ -65,7 +65,7 @@ module _ (h : Head) (t : List ℕ) where
     held-all : All P (collect there n) → (i : ℕ) → i < n → heldAt t i ≡ true → P (itemIn h t i)
     held-all a i l e = (rw (there-held i e) at (collect-all P there n a i l)) .0
 
-  count-held : (n : ℕ) → length (collect there n) ≡ heldBelow t n
+  pub count-held : (n : ℕ) → length (collect there n) ≡ heldBelow t n
   count-held zero = refl
   count-held (suc n) = go (count-held n) (heldAt t n) refl
     where

@@ -2,7 +2,7 @@
 -- Assumes nothing.
 use Prim.Native.Nat.{ℕ, _+_, _-_, _*_}
 use mathlib.Core.Path.{_≡_, refl, sym, ap, _∙_}
-use mathlib.Core.Logic.{_⊎_, ⊎-elim}
+use mathlib.Core.Logic.{⊎-elim}
 use mathlib.Core.List.{List, _++_}
 use native.Mathlib.Omega.{arith}
 use lib.ListN.{length, take, drop, replicate, length-append}
@@ -13,9 +13,9 @@ use Rattle.slots.proofs.SlotLaws.{slots-ext}
 use Rattle.table.specs.declared.trailer.Head.{Head}
 use Rattle.table.specs.declared.trailer.Headed.{Headed}
 use Rattle.table.specs.declared.trailer.Headed.the-variants.{Good, Bad}
-use Rattle.table.specs.Trailer.{trailerOf}
+use Rattle.table.specs.Trailer.{trailerOf, last16}
 use Rattle.table.specs.Layout.{layoutOf}
-use Rattle.table.proofs.TrailerLaws.{last16, table-sized, trailer-good, trailer-same, trailer-before}
+use Rattle.table.proofs.TrailerLaws.{table-sized, trailer-good, trailer-same, trailer-before}
 use Rattle.survey.specs.declared.checking.Checked.{Checked}
 use Rattle.survey.specs.declared.checking.Checked.the-variants.{Passes, BadTrailer, FaultAt}
 use Rattle.survey.specs.Check.{checkedIn}

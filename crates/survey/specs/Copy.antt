@@ -1,7 +1,7 @@
 -- Outward copy: 1, 10, then 9 unless the second buffer has exactly the table's length. It receives the table with the payload of each held
 -- slot zero. (An empty slot is zeros already.)
 -- Assumes nothing.
-use Prim.Native.Nat.{ℕ, zero, suc, _+_, _*_, _-_, _%_}
+use Prim.Native.Nat.{ℕ, zero, suc, _*_, _-_, _%_}
 use mathlib.Core.List.{List, _++_}
 use mathlib.Core.Bool.{cond, _&&_}
 use lib.Dec.{leb, ltb, eqb}

@@ -12,9 +12,9 @@ use Rattle.slots.proofs.Parts.{put-whole}
 use Rattle.slots.proofs.Numbers.{digits}
 use Rattle.table.specs.declared.trailer.Head.{Head}
 use Rattle.table.specs.declared.trailer.Headed.the-variants.{Good}
-use Rattle.table.specs.Trailer.{Dims, slotCount, tableSize, headOf, trailerOf, trailerBytes, fresh}
+use Rattle.table.specs.Trailer.{Dims, slotCount, tableSize, headOf, trailerOf, last16, trailerBytes, fresh}
 use Rattle.table.proofs.Sizes.{slots-most}
-use Rattle.table.proofs.TrailerLaws.{last16, good-trailer}
+use Rattle.table.proofs.TrailerLaws.{good-trailer}
 
 pub length-trailerBytes : (w h c p d : ℕ) → length (trailerBytes w h c p d) ≡ 16
 unfolding trailerBytes bytes32

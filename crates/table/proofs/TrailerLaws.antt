@@ -17,24 +17,11 @@ use Rattle.slots.proofs.SlotLaws.{drop-withSlot, length-withSlot}
 use Rattle.table.specs.declared.trailer.Head.{Head}
 use Rattle.table.specs.declared.trailer.Headed.{Headed}
 use Rattle.table.specs.declared.trailer.Headed.the-variants.{Good, Bad}
-use Rattle.table.specs.Trailer.{Dims, Sized, slotCount, tableSize, headOf, headOk, trailerOf, withTaken, withDelivered}
+use Rattle.table.specs.Trailer.{Sized, slotCount, headOf, headOk, trailerOf, last16, GoodTrailer, withTaken, withDelivered}
 use Rattle.table.proofs.Sizes.{dims, dims-true}
-
--- the bytes that are the trailer
-abbrev pub last16 : List ℕ → List ℕ
-last16 s = drop (length s - 16) s
 
 length-last16 : (s : List ℕ) → 16 ≤ length s → length (last16 s) ≡ 16
 length-last16 s l = rw length-drop (omega arith)
-
-pub record GoodTrailer (s : List ℕ) (h : Head) : Type 0 where
-  pub long : 16 ≤ length s
-  pub read : h ≡ headOf (last16 s)
-  pub spare : getD (last16 s) 3 0 ≡ 0
-  pub ranges : Dims (h .width) (h .height) (h .depth)
-  pub counts : h .delivered ≤ h .taken
-  pub size-is : h .size ≡ tableSize (h .width) (h .height) (h .depth)
-  pub size-in : h .size ≤ length s
 
 -- a choice with `Bad` for its other arm was taken
 chosen : (b : Bool) (x : Headed) {h : Head} → cond b x Bad ≡ Good h → (b ≡ true) × (x ≡ Good h)

@@ -54,6 +54,20 @@ trailerIn z n = cond (headOk (headOf z) (getD z 3 0) n) (Good (headOf z)) Bad
 unfoldable pub trailerOf : List ℕ → Headed
 trailerOf s = cond (leb 16 (length s)) (trailerIn (drop (length s - 16) s) (length s)) Bad
 
+-- the bytes that are the trailer
+abbrev pub last16 : List ℕ → List ℕ
+last16 s = drop (length s - 16) s
+
+-- what a good trailer means: document 01's sentence, as facts
+pub record GoodTrailer (s : List ℕ) (h : Head) : Type 0 where
+  pub long : 16 ≤ length s
+  pub read : h ≡ headOf (last16 s)
+  pub spare : getD (last16 s) 3 0 ≡ 0
+  pub ranges : Dims (h .width) (h .height) (h .depth)
+  pub counts : h .delivered ≤ h .taken
+  pub size-is : h .size ≡ tableSize (h .width) (h .height) (h .depth)
+  pub size-in : h .size ≤ length s
+
 -- t is a table with that head
 pub record Sized (h : Head) (t : List ℕ) : Type 0 where
   pub dims : Dims (h .width) (h .height) (h .depth)

@@ -11,8 +11,7 @@ use Rattle.network.proofs.Tests.{held, failed, cond-true, cond-false}
 use Rattle.slots.proofs.Parts.{lent-rest}
 use Rattle.table.specs.declared.trailer.Head.{Head}
 use Rattle.table.specs.declared.trailer.Headed.the-variants.{Good}
-use Rattle.table.specs.Trailer.{headOf, headOk, trailerOf}
-use Rattle.table.proofs.TrailerLaws.{last16}
+use Rattle.table.specs.Trailer.{headOf, headOk, trailerOf, last16}
 use Rattle.table.proofs.trailer.trailer.Statement.{statement}
 use Rattle.table.proofs.trailer.trailer.Tie as tie
 
