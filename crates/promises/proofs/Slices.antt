@@ -7,8 +7,7 @@ use mathlib.Core.Bool.{Bool, true, false, cond}
 use mathlib.Core.List.{List, _++_}
 use native.Mathlib.Omega.{arith}
 use lib.Dec.{eqb}
-use lib.ListN.{length, take, drop, length-append}
-use lib.Seq.{drop-at}
+use lib.ListN.{length, take, drop}
 use borrow.Author.Tests.{eqb-true, eqb-false, eq-eqb}
 use Rattle.network.specs.declared.Place.{Place}
 use Rattle.network.specs.declared.Lead.{Lead}
@@ -16,14 +15,14 @@ use Rattle.network.specs.declared.Lead.the-variants.{Hop, Turn, Out, NotOffered
 use Rattle.network.specs.Packet.{Packet, Delivery, Good as GoodPacket, handed}
 use Rattle.network.specs.View.{held, View, itemAt, contents}
 use Rattle.network.specs.Contents.{Passing}
-use Rattle.network.specs.Run.{unchanged, moved, delivered, Accepted}
+use Rattle.network.specs.Run.{Answer, unchanged, moved, delivered, Accepted, trace}
 use Rattle.network.specs.Machine.{Open}
 use Rattle.network.specs.Table.{Carried, HandedOut, HasRoom, TableMachine}
 use Rattle.network.specs.Drain.{Drains}
 use Rattle.network.proofs.Tests.{clash}
 use Rattle.network.proofs.Lists.{all-mem}
 use Rattle.network.proofs.Course.{means-good}
-use Rattle.network.proofs.Slots.{held-mem, table-drains}
+use Rattle.network.proofs.Slots.{held-mem, table-drains, table-fit}
 use Rattle.mesh.specs.declared.Step.the-variants.{Deliver}
 use Rattle.mesh.specs.Rule.{stepOf, signsOf, offers, ruled}
 use Rattle.mesh.proofs.Codes.{out-code}
@@ -44,17 +43,34 @@ use Rattle.router.specs.declared.moving.Verdict.{Verdict}
 use Rattle.router.specs.Move.{barred, leadOf, toward, verdictOf, handedOut, movedIn, movedInSlice}
 use Rattle.router.proofs.OnTable.{on-table-good}
 use Rattle.router.proofs.MoveLaws.{verdict-accepts, accepted-verdict, named-good, moved-out, moved-on, moved-number, target-within}
-use Rattle.promises.specs.Slices.{seenBy, see, nodeBy, Proposal, answerBy, answering}
+use Rattle.promises.specs.Slices.{placeIn, see}
+use Rattle.promises.proofs.Reading.{head-is, table-is, head-after, table-after}
 use Rattle.promises.proofs.Steps.{carried-by, handed-by, slot-says, open-accepted}
 
--- a table behind any bytes is seen as it is
-see-after : (p u : List ℕ) (h : Head) → trailerOf u ≡ Good h → length u ≡ h .size → see (p ++ u) ≡ viewOf h u
-see-after p u h e l =
-    let n : length (p ++ u) - h .size ≡ length p = omega (arith, length-append p u) in
-    ap (seenBy (p ++ u)) (trailer-after p u e) ∙ ap (viewOf h) (rw n (drop-at p u (length p) refl))
+-- ---- the machine that the large theorem speaks of: a slice, under proposed moves
 
-see-good : (s : List ℕ) (h : Head) → trailerOf s ≡ Good h → see s ≡ viewOf h (drop (length s - h .size) s)
-see-good s h e = ap (seenBy s) e
+pub record Proposal : Type 0 where
+  pub slot : ℕ
+  pub code : ℕ
+
+-- number 0 is acceptance; a delivery is an accepted code 7, and its record, all 16 bytes, is in the answer
+abbrev pub answerBy : List ℕ → Proposal → Outcome Moved (List ℕ) → Answer (List ℕ)
+answerBy s c o =
+    cond (eqb (o .answer .number) 0)
+    (cond (eqb (c .code) 7)
+    (delivered (o .bytes) record { node = placeIn s (c .slot) .node; packet = packetOf (o .answer .packet) })
+    (moved (o .bytes)))
+    unchanged
+
+abbrev pub answering : List ℕ → Proposal → Answer (List ℕ)
+answering s c = answerBy s c (movedInSlice s (c .slot) (c .code))
+
+-- a table behind any bytes is seen as it is
+pub see-after : (p u : List ℕ) (h : Head) → trailerOf u ≡ Good h → length u ≡ h .size → see (p ++ u) ≡ viewOf h u
+see-after p u h e l = λ i. viewOf (head-after p u e i) (table-after p u e l i)
+
+pub see-good : (s : List ℕ) (h : Head) → trailerOf s ≡ Good h → see s ≡ viewOf h (drop (length s - h .size) s)
+see-good s h e = λ i. viewOf (head-is s e i) (table-is s e i)
 
 -- ---- what an answer tells
 
@@ -63,7 +79,7 @@ module _ (s : List ℕ) (c : Proposal) (o : Outcome Moved (List ℕ)) where
   told-moved u e = go (eqb (o .answer .number) 0) (eqb (c .code) 7) refl refl e
     where
       go : (b d : Bool) → eqb (o .answer .number) 0 ≡ b → eqb (c .code) 7 ≡ d
-          → cond b (cond d (delivered (o .bytes) record { node = nodeBy (c .slot) (trailerOf s); packet = packetOf (o .answer .packet) }) (moved (o .bytes))) unchanged ≡ moved u
+          → cond b (cond d (delivered (o .bytes) record { node = placeIn s (c .slot) .node; packet = packetOf (o .answer .packet) }) (moved (o .bytes))) unchanged ≡ moved u
           → (o .answer .number ≡ 0) × (c .code ≢ 7) × (o .bytes ≡ u)
       go true false p q f = (eqb-true _ _ p, eqb-false _ _ q, cc)
       go true true p q f = clash cc
@@ -71,13 +87,13 @@ module _ (s : List ℕ) (c : Proposal) (o : Outcome Moved (List ℕ)) where
 
   told-delivered : (u : List ℕ) (d : Delivery) → answerBy s c o ≡ delivered u d
       → (o .answer .number ≡ 0) × (c .code ≡ 7) × (o .bytes ≡ u)
-      × (_≡_ {A = Delivery} record { node = nodeBy (c .slot) (trailerOf s); packet = packetOf (o .answer .packet) } d)
+      × (_≡_ {A = Delivery} record { node = placeIn s (c .slot) .node; packet = packetOf (o .answer .packet) } d)
   told-delivered u d e = go (eqb (o .answer .number) 0) (eqb (c .code) 7) refl refl e
     where
       go : (b g : Bool) → eqb (o .answer .number) 0 ≡ b → eqb (c .code) 7 ≡ g
-          → cond b (cond g (delivered (o .bytes) record { node = nodeBy (c .slot) (trailerOf s); packet = packetOf (o .answer .packet) }) (moved (o .bytes))) unchanged ≡ delivered u d
+          → cond b (cond g (delivered (o .bytes) record { node = placeIn s (c .slot) .node; packet = packetOf (o .answer .packet) }) (moved (o .bytes))) unchanged ≡ delivered u d
           → (o .answer .number ≡ 0) × (c .code ≡ 7) × (o .bytes ≡ u)
-          × (_≡_ {A = Delivery} record { node = nodeBy (c .slot) (trailerOf s); packet = packetOf (o .answer .packet) } d)
+          × (_≡_ {A = Delivery} record { node = placeIn s (c .slot) .node; packet = packetOf (o .answer .packet) } d)
       go true true p q f = (eqb-true _ _ p, eqb-true _ _ q, cc, cc)
       go true false p q f = clash cc
       go false g p q f = clash cc
@@ -86,9 +102,18 @@ module _ (s : List ℕ) (c : Proposal) (o : Outcome Moved (List ℕ)) where
   accepted-by-number e = go (eqb (c .code) 7)
     where
       go : (d : Bool) → Accepted (cond (eqb (o .answer .number) 0)
-          (cond d (delivered (o .bytes) record { node = nodeBy (c .slot) (trailerOf s); packet = packetOf (o .answer .packet) }) (moved (o .bytes))) unchanged)
+          (cond d (delivered (o .bytes) record { node = placeIn s (c .slot) .node; packet = packetOf (o .answer .packet) }) (moved (o .bytes))) unchanged)
       go true = rw (eq-eqb _ _ e) tt
       go false = rw (eq-eqb _ _ e) tt
+
+  pub number-by-accepted : Accepted (answerBy s c o) → o .answer .number ≡ 0
+  number-by-accepted a = go (eqb (o .answer .number) 0) refl a
+    where
+      go : (b : Bool) → eqb (o .answer .number) 0 ≡ b
+          → Accepted (cond b (cond (eqb (c .code) 7) (delivered (o .bytes) record { node = placeIn s (c .slot) .node; packet = packetOf (o .answer .packet) }) (moved (o .bytes))) unchanged)
+          → o .answer .number ≡ 0
+      go true e a = eqb-true _ _ e
+      go false e a = absurd a
 
 -- ---- an accepted move on a slice
 
@@ -99,11 +124,11 @@ module _ (s : List ℕ) (h : Head) (e : trailerOf s ≡ Good h) (k code : ℕ) w
   abbrev before : List ℕ
   before = take (length s - h .size) s
 
-  slice-is : movedInSlice s k code ≡ after before (movedIn h t k code)
+  pub slice-is : movedInSlice s k code ≡ after before (movedIn h t k code)
   unfolding movedInSlice
   slice-is = on-table-good s _ _ h e
 
-  number-is : movedInSlice s k code .answer .number ≡ verdictOf h t k code .number
+  pub number-is : movedInSlice s k code .answer .number ≡ verdictOf h t k code .number
   unfolding movedIn
   number-is = ap (λ (o : Outcome Moved (List ℕ)). o .answer .number) slice-is ∙ moved-number h t k (verdictOf h t k code)
 
@@ -185,7 +210,7 @@ seven-out p d lead e f = go (offers Deliver (signsOf (p .node) d) (p .kind)) lea
     go false l e f = let g : barred NotOffered ≡ false = rw (← e) at f in clash cc
 
 -- slices whose table is that of h₀, but for the count of deliveries
-abbrev Fit : Head → List ℕ → Type 0
+abbrev pub Fit : Head → List ℕ → Type 0
 Fit h₀ s = (d : ℕ) × (trailerOf s ≡ Good (delivering h₀ d))
 
 module _ (h₀ : Head) (small : h₀ .taken < 2 ^ 32) where
@@ -202,7 +227,7 @@ module _ (h₀ : Head) (small : h₀ .taken < 2 ^ 32) where
           rw (← q, see-after (before s h (f .1) (c .slot) (c .code)) (r .table) g (r .head) (r .full)) (r .step),
         )
 
-    carries : answering movedInSlice s c ≡ moved u → Fit h₀ u × Carried (netOf h) (layoutOf h) (see s) (see u)
+    pub carries : answering s c ≡ moved u → Fit h₀ u × Carried (netOf h) (layoutOf h) (see s) (see u)
     carries e =
         let r = told-moved s c (movedInSlice s (c .slot) (c .code)) u e in
         let z = sym (number-is s h (f .1) (c .slot) (c .code)) ∙ r .0 in
@@ -211,7 +236,7 @@ module _ (h₀ : Head) (small : h₀ .taken < 2 ^ 32) where
         let w = seen-after h _ (carried-on s h (f .1) (c .slot) (c .code) z lead refl in-net) (r .2) in
         ((f .0, w .0), rw (see-good s h (f .1)) (w .1))
 
-    hands : (d : Delivery) → answering movedInSlice s c ≡ delivered u d → Fit h₀ u × HandedOut (netOf h) (layoutOf h) (see s) (see u) d
+    pub hands : (d : Delivery) → answering s c ≡ delivered u d → Fit h₀ u × HandedOut (netOf h) (layoutOf h) (see s) (see u) d
     hands d e =
         let o = movedInSlice s (c .slot) (c .code) in
         let r = told-delivered s c o u d e in
@@ -223,27 +248,26 @@ module _ (h₀ : Head) (small : h₀ .taken < 2 ^ 32) where
         let w = handed-on s h (f .1) (c .slot) (c .code) z small out in
         let a = seen-after (delivering h (h .delivered + 1)) _ (w .0) (r .2) in
         let same : handed x ≡ d =
-        (λ i. record { node = nodeBy (c .slot) (sym (f .1) i); packet = packetOf (sym (w .1) i) }) ∙ r .3 in
+        (λ i. record { node = layoutOf (sym (head-is s (f .1)) i) .placeOf (c .slot) .node; packet = packetOf (sym (w .1) i) }) ∙ r .3 in
         ((h .delivered + 1, a .0), rw (see-good s h (f .1), ← same) (a .1))
 
   -- a good packet's move that the rule offers, to a queue with room or out, is accepted
   accepts : (s : List ℕ) (f : Fit h₀ s) → Passing (netOf (delivering h₀ (f .0))) (contents (layoutOf (delivering h₀ (f .0))) (see s)) → (i : ℕ) (p : Packet) (code : ℕ)
       → i < layoutOf (delivering h₀ (f .0)) .size → see s .at i ≡ held p
       → Open (netOf (delivering h₀ (f .0))) (HasRoom (layoutOf (delivering h₀ (f .0))) (see s)) (itemAt (layoutOf (delivering h₀ (f .0))) i p) code
-      → Accepted (answering movedInSlice s record { slot = i; code = code })
+      → Accepted (answering s record { slot = i; code = code })
   unfolding goodAt
   accepts s f P i p code l e o =
       let g = delivering h₀ (f .0) in
       let table = drop (length s - g .size) s in
-      let seen = see-good s g (f .1) in
-      let there : viewOf g table .at i ≡ held p = rw seen at e in
+      let there : viewOf g table .at i ≡ held p = rw (table-is s (f .1)) at e in
       let packet = slot-says (slotAt table i) p there .1 in
       let fine = all-mem (GoodPacket (netOf g) (see s .taken) (see s .delivered)) (held-mem (layoutOf g) (see s) i p l e) (P .sound) in
-      let good-there : goodAt g table i ≡ true = rw (packet) (means-good (netOf g) (g .taken) (g .delivered) (itemAt (layoutOf g) i p) (rw seen at fine)) in
-      let z = open-accepted g table i p code l there good-there (rw seen at o) in
+      let good-there : goodAt g table i ≡ true = rw (packet) (means-good (netOf g) (g .taken) (g .delivered) (itemAt (layoutOf g) i p) (rw (head-is s (f .1)) at fine)) in
+      let z = open-accepted g table i p code l there good-there (rw (table-is s (f .1)) at o) in
       accepted-by-number s record { slot = i; code = code } (movedInSlice s i code) (number-is s g (f .1) i code ∙ z)
 
-  machine : TableMachine (netOf h₀) (layoutOf h₀) see (Fit h₀) (answering movedInSlice)
+  machine : TableMachine (netOf h₀) (layoutOf h₀) see (Fit h₀) answering
   unfolding layoutOf
   machine = record {
     carries = λ s u c f P. carries s u c f;
@@ -253,7 +277,14 @@ module _ (h₀ : Head) (small : h₀ .taken < 2 ^ 32) where
 
 -- demand 3 of a slice under proposed moves: the table passes, and the count of packets taken in is one of four bytes
 pub slices-drain : (s : List ℕ) (h : Head) → trailerOf s ≡ Good h → h .taken < 2 ^ 32 → Passing (netOf h) (contents (layoutOf h) (see s))
-    → (calls : List Proposal) → Drains (netOf h) (λ u. contents (layoutOf h) (see u)) (answering movedInSlice) s calls
+    → (calls : List Proposal) → Drains (netOf h) (λ u. contents (layoutOf h) (see u)) answering s calls
 slices-drain s h e small P calls =
-    table-drains (netOf h) (mesh-laws (h .width) (h .height)) (layoutOf h) (layout-laws h (trailer-sized s e .dims)) see (Fit h) (answering movedInSlice)
+    table-drains (netOf h) (mesh-laws (h .width) (h .height)) (layoutOf h) (layout-laws h (trailer-sized s e .dims)) see (Fit h) answering
+    (machine h small) s (h .delivered, e) P calls
+
+-- and it is a table still, with the head it had but for the count of deliveries
+pub slices-fit : (s : List ℕ) (h : Head) → trailerOf s ≡ Good h → h .taken < 2 ^ 32 → Passing (netOf h) (contents (layoutOf h) (see s))
+    → (calls : List Proposal) → (d : ℕ) × (trailerOf (trace answering s calls .last) ≡ Good (delivering h d))
+slices-fit s h e small P calls =
+    table-fit (netOf h) (mesh-laws (h .width) (h .height)) (layoutOf h) (layout-laws h (trailer-sized s e .dims)) see (Fit h) answering
     (machine h small) s (h .delivered, e) P calls

@@ -46,21 +46,21 @@ packet-hop (a ∷ b ∷ []) more h = absurd (omega arith)
 packet-hop (a ∷ b ∷ c ∷ []) more h = absurd (omega arith)
 packet-hop (a ∷ b ∷ c ∷ d ∷ v) more h = refl
 
-slot-held : (v : List ℕ) → zeros v ≡ false → slotOf v ≡ held (packetOf v)
+pub slot-held : (v : List ℕ) → zeros v ≡ false → slotOf v ≡ held (packetOf v)
 slot-held v e = cond-false _ _ e
 
-slot-empty : (v : List ℕ) → zeros v ≡ true → slotOf v ≡ empty
+pub slot-empty : (v : List ℕ) → zeros v ≡ true → slotOf v ≡ empty
 slot-empty v e = cond-true _ _ e
 
 -- ---- where the target slot is
 
 module _ (h : Head) (g : GoodHead h) (t : List ℕ) (target : Place) (on : netOf h .valid (target .node) ≡ true) (j : ℕ)
     (room : roomAt h t target ≡ At j) where
-  lowest : Lowest t (layoutOf h .first target) (layoutOf h .room (target .kind)) j
+  pub lowest : Lowest t (layoutOf h .first target) (layoutOf h .room (target .kind)) j
   unfolding roomAt
   lowest = room-lowest t (layoutOf h .first target) (layoutOf h .room (target .kind)) j room
 
-  target-place : layoutOf h .placeOf j ≡ target
+  pub target-place : layoutOf h .placeOf j ≡ target
   target-place =
       let first = layoutOf h .first target in
       let e : j ≡ first + (j - first) = omega (arith, lowest .from) in
@@ -118,7 +118,7 @@ module _ (h : Head) (t : List ℕ) (k code : ℕ) (z : Sized h t) (a : Accepted 
 -- ---- an accepted move by where the rule leads
 
 -- a changed count of deliveries leaves every slot
-kept : {h : Head} {u : List ℕ} → Sized h u → (m i : ℕ) → i < layoutOf h .size → slotAt (withDelivered u m) i ≡ slotAt u i
+pub kept : {h : Head} {u : List ℕ} → Sized h u → (m i : ℕ) → i < layoutOf h .size → slotAt (withDelivered u m) i ≡ slotAt u i
 unfolding layoutOf
 kept z m i l = slotAt-withDelivered z m i l
 
@@ -174,7 +174,7 @@ slot-says v p e = go (zeros v) refl e
     go false f g = (f, cc)
 
 -- an offered code is one that there is
-offered-known : (h : Head) (p : Place) (d c : ℕ) {lead : Lead} → netOf h .rule p d c ≡ lead → barred lead ≡ false → netOf h .known c ≡ true
+pub offered-known : (h : Head) (p : Place) (d c : ℕ) {lead : Lead} → netOf h .rule p d c ≡ lead → barred lead ≡ false → netOf h .known c ≡ true
 offered-known h p d c e f = go (netOf h .known c) refl
   where
     go : (b : Bool) → netOf h .known c ≡ b → b ≡ true

@@ -1,2 +1,10 @@
-pub mod Cases
 pub mod Slices
+pub mod Router
+pub mod Conditions
+pub mod Demand1
+pub mod Demand2
+pub mod Calls
+pub mod Demand3
+pub mod History
+pub mod Wrong
+pub mod Cases

@@ -1,52 +1,67 @@
--- A lent slice as a state that answers proposed moves: what it shows, and what a move makes of it.
+-- A lent slice as document 01 reads it: its trailer's head, its table, its slots and their places. Where the trailer is not good they mean nothing.
 -- Assumes nothing.
 use Prim.Native.Nat.{ℕ, _-_, _<_}
-use mathlib.Core.Bool.{cond}
 use mathlib.Core.List.{List}
-use lib.Dec.{eqb}
-use lib.ListN.{length, drop}
+use lib.ListN.{length, take, drop}
+use Rattle.network.specs.declared.Place.{Place}
 use Rattle.network.specs.Lists.{All}
-use Rattle.network.specs.View.{empty, View}
-use Rattle.network.specs.Run.{Answer, unchanged, moved, delivered}
-use Rattle.table.specs.declared.trailer.Headed.{Headed}
-use Rattle.table.specs.declared.trailer.Headed.the-variants.{Good, Bad}
-use Rattle.table.specs.Trailer.{trailerOf}
-use Rattle.table.specs.Layout.{layoutOf}
-use Rattle.table.specs.Packets.{packetOf, viewOf}
-use Rattle.router.specs.declared.moving.Moved.{Moved}
-use Rattle.router.specs.Outcome.{Outcome}
+use Rattle.network.specs.Net.{Net}
+use Rattle.network.specs.Packet.{Item}
+use Rattle.network.specs.Contents.{Contents}
+use Rattle.network.specs.View.{Layout, View, contents}
+use Rattle.slots.specs.Slots.{slotAt}
+use Rattle.table.specs.declared.trailer.Head.{Head}
+use Rattle.table.specs.Trailer.{headOf, last16, GoodTrailer}
+use Rattle.table.specs.Layout.{netOf, layoutOf}
+use Rattle.table.specs.Packets.{viewOf, itemIn}
 
 -- what can be lent: a list of bytes
 abbrev pub Bytes : List ℕ → Type 0
 Bytes s = All (λ (x : ℕ). x < 256) s
 
--- the slots and counts of the table in a slice; where the trailer is not good, nothing
-abbrev pub seenBy : List ℕ → Headed → View
-seenBy s Bad = record { at = λ k. empty; taken = 0; delivered = 0 }
-seenBy s (Good h) = viewOf h (drop (length s - h .size) s)
+-- what the last 16 bytes say
+unfoldable pub headIn : List ℕ → Head
+headIn s = headOf (last16 s)
 
+-- the trailer is good
+abbrev pub GoodIn : List ℕ → Type 0
+GoodIn s = GoodTrailer s (headIn s)
+
+-- the table is the last part of the slice; the bytes before it
+unfoldable pub tableIn : List ℕ → List ℕ
+tableIn s = drop (length s - headIn s .size) s
+
+unfoldable pub beforeIn : List ℕ → List ℕ
+beforeIn s = take (length s - headIn s .size) s
+
+abbrev pub layoutIn : List ℕ → Layout
+layoutIn s = layoutOf (headIn s)
+
+abbrev pub netIn : List ℕ → Net
+netIn s = netOf (headIn s)
+
+-- S
+abbrev pub slotsIn : List ℕ → ℕ
+slotsIn s = layoutIn s .size
+
+-- the 16 bytes of a slot, and its place
+abbrev pub slotIn : List ℕ → ℕ → List ℕ
+slotIn s k = slotAt (tableIn s) k
+
+abbrev pub placeIn : List ℕ → ℕ → Place
+placeIn s k = layoutIn s .placeOf k
+
+-- what the bytes of a slot say, in its place
+abbrev pub packetIn : List ℕ → ℕ → Item
+packetIn s k = itemIn (headIn s) (tableIn s) k
+
+-- the slots and the two counts, and the packets held in their places
 abbrev pub see : List ℕ → View
-see s = seenBy s (trailerOf s)
+see s = viewOf (headIn s) (tableIn s)
 
--- the node of a slot
-abbrev pub nodeBy : ℕ → Headed → ℕ
-nodeBy slot Bad = 0
-nodeBy slot (Good h) = layoutOf h .placeOf slot .node
+abbrev pub contentsIn : List ℕ → Contents
+contentsIn s = contents (layoutIn s) (see s)
 
--- a proposed move
-pub record Proposal : Type 0 where
-  pub slot : ℕ
-  pub code : ℕ
-
--- number 0 is acceptance; a delivery is an accepted code 7, and its record, all 16 bytes, is in the answer
-abbrev pub answerBy : List ℕ → Proposal → Outcome Moved (List ℕ) → Answer (List ℕ)
-answerBy s c o =
-    cond (eqb (o .answer .number) 0)
-    (cond (eqb (c .code) 7)
-    (delivered (o .bytes) record { node = nodeBy (c .slot) (trailerOf s); packet = packetOf (o .answer .packet) })
-    (moved (o .bytes)))
-    unchanged
-
--- a router's move as such an answer
-abbrev pub answering : (List ℕ → ℕ → ℕ → Outcome Moved (List ℕ)) → List ℕ → Proposal → Answer (List ℕ)
-answering move s c = answerBy s c (move s (c .slot) (c .code))
+-- the number of held slots
+abbrev pub heldIn : List ℕ → ℕ
+heldIn s = length (contentsIn s .items)

@@ -1,0 +1,49 @@
+-- A slice that stands: its trailer is good, its count of packets taken in is one of four bytes, and its table passes. Such a slice's full check
+-- answers 0.
+-- Assumes nothing.
+use Prim.Native.Nat.{ℕ, _-_, _<_, _^_}
+use mathlib.Core.Path.{_≡_, sym, ap, subst, _∙_}
+use mathlib.Core.List.{List, _++_}
+use lib.ListN.{length, drop}
+use Rattle.network.specs.Contents.{Passing}
+use Rattle.network.specs.View.{View, contents}
+use Rattle.table.specs.declared.trailer.Head.{Head}
+use Rattle.table.specs.declared.trailer.Headed.the-variants.{Good}
+use Rattle.table.specs.Trailer.{trailerOf}
+use Rattle.table.specs.Layout.{netOf, layoutOf}
+use Rattle.table.specs.Packets.{viewOf}
+use Rattle.table.proofs.TrailerLaws.{trailer-after}
+use Rattle.survey.specs.declared.checking.Checked.the-variants.{Passes}
+use Rattle.survey.specs.Check.{checkedBy, checkAnswer, checkedSlice}
+use Rattle.survey.proofs.Meaning.{means-passes}
+use Rattle.promises.specs.Slices.{netIn, see, contentsIn}
+use Rattle.promises.proofs.Reading.{head-is}
+use Rattle.promises.proofs.Slices.{see-after, see-good}
+
+pub record Stands (s : List ℕ) (h : Head) : Type 0 where
+  pub head : trailerOf s ≡ Good h
+  pub small : h .taken < 2 ^ 32
+  pub passing : Passing (netOf h) (contents (layoutOf h) (see s))
+
+-- the same of the table alone
+pub table-passing : (s : List ℕ) (h : Head) → Stands s h → Passing (netOf h) (contents (layoutOf h) (viewOf h (drop (length s - h .size) s)))
+table-passing s h a = subst (λ (v : View). Passing (netOf h) (contents (layoutOf h) v)) (see-good s h (a .head)) (a .passing)
+
+-- a table that stands does so behind any bytes
+pub stands-after : (p t : List ℕ) (h : Head) → trailerOf t ≡ Good h → length t ≡ h .size → h .taken < 2 ^ 32
+    → Passing (netOf h) (contents (layoutOf h) (viewOf h t)) → Stands (p ++ t) h
+stands-after p t h e l small P = record {
+  head = trailer-after p t e;
+  small = small;
+  passing = subst (λ (v : View). Passing (netOf h) (contents (layoutOf h) v)) (sym (see-after p t h e l)) P;
+}
+
+-- as the slice's own words have it
+pub stands-in : (s : List ℕ) (h : Head) → Stands s h → Passing (netIn s) (contentsIn s)
+stands-in s h a = subst (λ (g : Head). Passing (netOf g) (contents (layoutOf g) (see s))) (sym (head-is s (a .head))) (a .passing)
+
+pub stands-checked : (s : List ℕ) (h : Head) → Stands s h → checkAnswer (checkedSlice s) .number ≡ 0
+unfolding checkedSlice
+stands-checked s h a =
+    let c : checkedSlice s ≡ Passes = ap (checkedBy s) (a .head) ∙ means-passes h (drop (length s - h .size) s) (table-passing s h a) in
+    rw c

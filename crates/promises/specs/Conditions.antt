@@ -1,0 +1,74 @@
+-- Document 01's words for the slots of a slice, as facts: empty, held, good, spoiled, an empty slot of a queue, the full check's first fault.
+-- Assumes nothing.
+use Prim.Native.Nat.{ℕ, _-_, _<_, _≤_}
+use mathlib.Core.Path.{_≡_}
+use mathlib.Core.Logic.{_≢_}
+use mathlib.Core.List.{List}
+use Rattle.network.specs.declared.Place.{Place}
+use Rattle.network.specs.declared.Lead.{Lead}
+use Rattle.network.specs.declared.Lead.the-variants.{Hop, Turn, Out, NotOffered}
+use Rattle.network.specs.Net.{at}
+use Rattle.network.specs.Packet.{Good}
+use Rattle.mesh.specs.Published.{published}
+use Rattle.slots.specs.Slots.{emptySlot}
+use Rattle.promises.specs.Slices.{headIn, netIn, slotsIn, slotIn, placeIn, packetIn, heldIn}
+
+-- an empty slot is 16 zeros; a slot that isn't empty is held
+abbrev pub EmptyAt : List ℕ → ℕ → Type 0
+EmptyAt s k = slotIn s k ≡ emptySlot
+
+abbrev pub HeldAt : List ℕ → ℕ → Type 0
+HeldAt s k = slotIn s k ≢ emptySlot
+
+-- a held slot is good if all of `Good` is true; otherwise it is spoiled
+abbrev pub GoodAt : List ℕ → ℕ → Type 0
+GoodAt s k = Good (netIn s) (headIn s .taken) (headIn s .delivered) (packetIn s k)
+
+abbrev pub SpoiledAt : List ℕ → ℕ → Type 0
+SpoiledAt s k = HeldAt s k × (GoodAt s k → ⊥)
+
+abbrev pub IsCode : ℕ → Type 0
+IsCode code = (1 ≤ code) × (code ≤ 7)
+
+-- where the published function leads the packet of a slot by a code
+abbrev pub leadIn : List ℕ → ℕ → ℕ → Lead
+leadIn s k code = published (placeIn s k) (packetIn s k .packet .destination) code
+
+-- slot j is an empty one of the queue at that place
+pub record EmptyOf (s : List ℕ) (p : Place) (j : ℕ) : Type 0 where
+  pub inside : j < slotsIn s
+  pub there : placeIn s j ≡ p
+  pub empty : EmptyAt s j
+
+abbrev pub HasEmpty : List ℕ → Place → Type 0
+HasEmpty s p = (j : ℕ) × EmptyOf s p j
+
+-- and the lowest such
+pub record LowestOf (s : List ℕ) (p : Place) (j : ℕ) : Type 0 where
+  pub one : EmptyOf s p j
+  pub least : (i : ℕ) → EmptyOf s p i → j ≤ i
+
+-- a lead needs an empty slot in its target queue; a hop keeps the queue kind, a turn keeps the node, and out needs none
+abbrev pub Room : List ℕ → Place → Lead → Type 0
+Room s here (Hop n) = HasEmpty s (at n (here .kind))
+Room s here (Turn k) = HasEmpty s (at (here .node) k)
+Room s here Out = Unit {0}
+Room s here NotOffered = Unit {0}
+
+-- a held slot whose serial a lower held slot has
+abbrev pub RepeatsAt : List ℕ → ℕ → Type 0
+RepeatsAt s k = HeldAt s k × ((j : ℕ) × (j < k) × HeldAt s j × (packetIn s j .packet .serial ≡ packetIn s k .packet .serial))
+
+abbrev pub NoneBelow : (ℕ → Type 0) → ℕ → Type 0
+NoneBelow P n = (j : ℕ) → j < n → P j → ⊥
+
+-- document 01, "Full check": the lowest spoiled slot; else the lowest held slot whose serial a lower held slot has; else S, where taken less
+-- delivered isn't the number of held slots
+pub data FaultAt (s : List ℕ) (place : ℕ) : Type 0 where
+  spoiled : place < slotsIn s → SpoiledAt s place → NoneBelow (SpoiledAt s) place → FaultAt s place
+  repeated : NoneBelow (SpoiledAt s) (slotsIn s) → place < slotsIn s → RepeatsAt s place → NoneBelow (RepeatsAt s) place → FaultAt s place
+  miscounted : NoneBelow (SpoiledAt s) (slotsIn s) → NoneBelow (RepeatsAt s) (slotsIn s) → headIn s .taken - headIn s .delivered ≢ heldIn s → place ≡ slotsIn s
+      → FaultAt s place
+
+abbrev pub NothingHeld : List ℕ → Type 0
+NothingHeld s = (k : ℕ) → k < slotsIn s → EmptyAt s k
