@@ -4,7 +4,7 @@
 -- says nothing of its bytes: no call can write them.
 -- Assumes nothing.
 use Prim.Native.Nat.{ℕ}
-use mathlib.Core.Path.{_≡_, sym, ap, _∙_}
+use mathlib.Core.Path.{_≡_, ap}
 use mathlib.Core.Bool.{Bool}
 use mathlib.Core.List.{List}
 use contract.Lifetimes.{Lfts}
@@ -20,6 +20,7 @@ use Rattle.router.specs.declared.moving.Moved.{Moved}
 use Rattle.router.specs.declared.taking.Taken.{Taken}
 use Rattle.router.specs.Outcome.{Outcome, outcome}
 use Rattle.router.specs.ReadPayload.{Reading, reading}
+use Rattle.router.proofs.OneOutcome.{one, both}
 use Rattle.router.proofs.clearing.clear.Reads as clear-reads
 use Rattle.router.proofs.taking.take_in.Reads as take-in-reads
 use Rattle.router.proofs.moving.make_move.Reads as make-move-reads
@@ -34,15 +35,6 @@ use Rattle.survey.proofs.checking.full_check.Reads as full-check-reads
 use Rattle.survey.proofs.finding.find.Reads as find-reads
 use Rattle.survey.proofs.copying.copy_outward.Reads as copy-outward-reads
 use Rattle.promises.specs.Router.{Buffers, ours}
-
--- ---- the law: two that equal one definition are equal
-
-one : {A : Type 0} {r r′ : A} (d : A) → r ≡ d → r′ ≡ d → r ≡ r′
-one d h h′ = h ∙ sym h′
-
--- of an answer, and of the bytes left
-both : {A B : Type 0} {r r′ : A} {u u′ : B} (o : Outcome A B) → outcome r u ≡ o → outcome r′ u′ ≡ o → (r ≡ r′) × (u ≡ u′)
-both o h h′ = let e = one o h h′ in (ap (λ x. x .answer) e, ap (λ x. x .bytes) e)
 
 -- ---- clear, take in, move: the answer and every byte of the slice as it is left
 

@@ -1,3 +1,4 @@
 pub mod OnTable
 pub mod TakeLaws
 pub mod MoveLaws
+pub mod OneOutcome

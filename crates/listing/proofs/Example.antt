@@ -1,0 +1,74 @@
+-- Document 01's example: its table is listed as it says, byte for byte; and the refusals are worded as it says.
+-- Assumes nothing.
+use Prim.Native.Nat.{ℕ}
+use mathlib.Core.Path.{_≡_, refl}
+use mathlib.Core.List.{List, [], _∷_, _++_}
+use lib.ListN.{replicate}
+use Rattle.network.specs.Packet.{good}
+use Rattle.mesh.specs.Grid.{distanceOf}
+use Rattle.mesh.specs.Rule.{signsOf}
+use Rattle.slots.specs.Slots.{slotAt}
+use Rattle.table.specs.Trailer.{dimsOk, headOk, trailerOf}
+use Rattle.table.specs.Layout.{layoutOf}
+use Rattle.table.specs.Packets.{goodAt}
+use Rattle.survey.specs.Check.{firstSpoiled, firstRepeat, countsOk, serialsOk, checkedIn, checkedSlice}
+use Rattle.text.specs.Dec.{dec, decFrom}
+use Rattle.text.specs.Text.{text}
+use Rattle.listing.specs.Lines.{
+  gridText,
+  countsText,
+  headLine,
+  nodeText,
+  placeText,
+  packetText,
+  slotLine,
+  rowAt,
+  rowsBelow,
+  lastLine,
+  tableLines,
+}
+use Rattle.listing.specs.Output.{refusalLine, faultLine, listing}
+
+-- a 2 by 1 grid of depth 1, one packet taken in from (0,0) to (1,0)
+abbrev packet : List ℕ
+packet = 1 ∷ 0 ∷ 1 ∷ 0 ∷ 0 ∷ 0 ∷ 0 ∷ 0 ∷ 1 ∷ 2 ∷ 3 ∷ 4 ∷ 5 ∷ 6 ∷ 7 ∷ 8 ∷ []
+
+abbrev trailer : List ℕ
+trailer = 2 ∷ 1 ∷ 1 ∷ 0 ∷ 1 ∷ 0 ∷ 0 ∷ 0 ∷ 0 ∷ 0 ∷ 0 ∷ 0 ∷ 112 ∷ 0 ∷ 0 ∷ 0 ∷ []
+
+pub example : listing (packet ++ replicate 80 0 ++ trailer)
+    ≡ text "grid 2 1 depth 1 taken 1 delivered 0\n0 W 0,0 from 0,0 to 1,0 hops 0 serial 0\nheld 1\n"
+unfolding listing
+    checkedSlice
+    checkedIn
+    firstSpoiled
+    firstRepeat
+    serialsOk
+    countsOk
+    goodAt
+    good
+    distanceOf
+    signsOf
+    trailerOf
+    headOk
+    dimsOk
+    layoutOf
+    slotAt
+    tableLines
+    headLine
+    gridText
+    countsText
+    rowsBelow
+    rowAt
+    slotLine
+    placeText
+    packetText
+    nodeText
+    lastLine
+    dec
+    decFrom
+example = refl
+
+pub refusals : (refusalLine 9 ≡ text "refused 9\n") × ((refusalLine 1 ≡ text "refused 1\n") × (faultLine 27 ≡ text "refused 10 at 27\n"))
+unfolding refusalLine faultLine dec decFrom
+refusals = (refl, (refl, refl))

@@ -1,0 +1,5 @@
+pub mod RowLaws
+pub mod Bounds
+pub mod OutputLaws
+pub mod Determined
+pub mod Example

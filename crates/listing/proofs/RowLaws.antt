@@ -1,0 +1,78 @@
+-- Laws of the lines of slots: a slot's row, the rows so far, and what the check says of the number held.
+-- Assumes nothing.
+use Prim.Native.Nat.{ℕ, zero, suc, _+_, _-_, _≤_, _<_}
+use mathlib.Core.Path.{_≡_, refl, ap}
+use mathlib.Core.Bool.{Bool, true, false, not, cond}
+use mathlib.Core.List.{List, [], _++_}
+use native.Mathlib.Decide.{decLt}
+use native.Mathlib.Numerals.{add-one}
+use native.Mathlib.Omega.{arith}
+use lib.ListN.{length, length-append}
+use borrow.Author.Tests.{eqb-true}
+use Rattle.network.proofs.Tests.{clash, cond-true, cond-false}
+use Rattle.slots.specs.Slots.{slotAt, zeros}
+use Rattle.table.specs.declared.trailer.Head.{Head}
+use Rattle.table.specs.Layout.{layoutOf}
+use Rattle.table.specs.Packets.{itemIn, fieldsOf, itemBy}
+use Rattle.survey.specs.declared.checking.Checked.the-variants.{Passes, FaultAt}
+use Rattle.survey.specs.Check.{heldBelow, firstSpoiled, firstRepeat, countsOk, serialsOk, checkedIn}
+use Rattle.survey.proofs.Meaning.{none-or}
+use Rattle.text.specs.Put.{Fits}
+use Rattle.listing.specs.Lines.{packetText, slotLine, rowAt, rowsBelow}
+
+counted : (b : Bool) (n : ℕ) → cond b Passes (FaultAt n) ≡ Passes → b ≡ true
+counted true n e = refl
+counted false n e = clash cc
+
+module _ (h : Head) (t : List ℕ) where
+  module _ (k : ℕ) where
+    pub row-empty : zeros (slotAt t k) ≡ true → rowAt h t k ≡ []
+    unfolding rowAt
+    row-empty e = cond-false _ _ (ap not e)
+
+    pub row-held : zeros (slotAt t k) ≡ false → rowAt h t k ≡ slotLine k (itemIn h t k)
+    unfolding rowAt
+    row-held e = cond-true _ _ (ap not e)
+
+    -- no line shows the payload
+    pub line-by : slotLine k (itemBy (layoutOf h .placeOf k) (fieldsOf (slotAt t k))) ≡ slotLine k (itemIn h t k)
+    unfolding slotLine packetText
+    line-by = refl
+
+    pub rows-more : rowsBelow h t (k + 1) ≡ rowsBelow h t k ++ rowAt h t k
+    unfolding rowsBelow
+    rows-more = rw add-one
+
+  pub rows-none : rowsBelow h t 0 ≡ []
+  unfolding rowsBelow
+  rows-none = refl
+
+  pub rows-longer : (n : ℕ) → length (rowsBelow h t (suc n)) ≡ length (rowsBelow h t n) + length (rowAt h t n)
+  unfolding rowsBelow
+  rows-longer n = length-append (rowsBelow h t n) (rowAt h t n)
+
+  -- more slots, more lines
+  rows-grow : (n k : ℕ) → k ≤ n → length (rowsBelow h t k) ≤ length (rowsBelow h t n)
+  rows-grow zero k l = let e : k ≡ 0 = omega arith in rw e (omega arith)
+  rows-grow (suc n) k l = go (rows-grow n k)
+    where
+      go : (k ≤ n → length (rowsBelow h t k) ≤ length (rowsBelow h t n)) → length (rowsBelow h t k) ≤ length (rowsBelow h t (suc n))
+      go below = elim (decLt n k) [
+        | yes p ↦ let e : k ≡ suc n = omega arith in rw e (omega arith)
+        | no p ↦ let b : length (rowsBelow h t k) ≤ length (rowsBelow h t n) = below (omega arith) in omega (arith, rows-longer n)
+      ]
+
+  -- where all rows have room, the next one has it past those before it
+  pub row-fits : {d : List ℕ} {at : ℕ} (n k : ℕ) → k < n → Fits d at (rowsBelow h t n) → Fits d at (rowsBelow h t k ++ rowAt h t k)
+  row-fits {d} {at} n k l f =
+      let g = rows-grow n (k + 1) (omega arith) in
+      let all : Fits d at (rowsBelow h t (k + 1)) = record { room = omega (arith, f .room) } in
+      rw (rows-more k) at all
+
+  -- a table that passes holds as many packets as are taken in and not delivered
+  pub held-counted : checkedIn h t ≡ Passes → h .taken - h .delivered ≡ heldBelow t (layoutOf h .size)
+  unfolding checkedIn serialsOk countsOk
+  held-counted e =
+      let a = none-or (firstSpoiled h t) (serialsOk h t) e in
+      let b = none-or (firstRepeat t (layoutOf h .size)) (countsOk h t) (a .1) in
+      eqb-true (h .taken - h .delivered) (heldBelow t (layoutOf h .size)) (counted _ (layoutOf h .size) (b .1))

@@ -1,0 +1,3 @@
+pub mod Dec
+pub mod Put
+pub mod Text
