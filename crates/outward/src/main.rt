@@ -14,7 +14,9 @@ fn send_copy(s: &[u8], out: &mut [u8]) {
         refuse(s);
         return;
     };
-    io::write_all(libc::STDOUT_FILENO, out);
+    if !io::write_all(libc::STDOUT_FILENO, out) {
+        io::write_all(libc::STDERR_FILENO, b"the copy could not be written\n");
+    }
 }
 
 fn send_in(s: &[u8], room: &mut [u8], size: usize) {
