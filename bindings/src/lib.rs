@@ -1,0 +1,226 @@
+//! Paneglove's packet table for a rectangular grid, from Rust.
+//!
+//! The calls are proved in Rattle and linked from the archive that `rt staticlib paneglove` writes; this crate only wraps them. The table is
+//! the last part of the slice lent, and bytes before it are neither read nor written. Any bytes and any numbers get an answer, and a refused
+//! call changes no byte.
+//!
+//! ```
+//! use paneglove::{clear, find, make_move, node, take_in, Moved, Refusal};
+//!
+//! let mut board = [0; 1296];
+//! clear(&mut board, 4, 4, 2)?;
+//! take_in(&mut board, node(0, 0), node(3, 3), *b"payload!")?;
+//! loop {
+//!     match find(&board) {
+//!         Ok(found) => {
+//!             if let Moved::Delivered { packet } = make_move(&mut board, found.slot, found.code)? {
+//!                 assert_eq!(&packet[8..], b"payload!");
+//!             }
+//!         }
+//!         Err(Refusal::NothingHeld) => break,
+//!         Err(refusal) => return Err(refusal),
+//!     }
+//! }
+//! # Ok::<(), Refusal>(())
+//! ```
+mod archive;
+
+use std::error::Error;
+use std::fmt;
+
+/// The code of delivery, the one move that hands its packet out.
+pub const DELIVER: u32 = 7;
+
+/// The buffer that a listing needs, whatever the slice.
+pub const LISTING_ROOM: usize = 226_627;
+
+/// Why a call was refused: document 01's eleven numbers.
+#[derive(Clone, Copy, Debug, PartialEq, Eq, Hash)]
+pub enum Refusal {
+    /// 1
+    Trailer,
+    /// 2
+    OutOfRange,
+    /// 3
+    Empty,
+    /// 4
+    Spoiled,
+    /// 5
+    NotOffered,
+    /// 6
+    NoRoom,
+    /// 7
+    AllTaken,
+    /// 8
+    Sizes,
+    /// 9
+    Buffer,
+    /// 10, with the slot at fault, or the number of slots where the counts disagree
+    Fault { place: u32 },
+    /// 11
+    NothingHeld,
+}
+
+impl Refusal {
+    /// The paper's number.
+    pub fn number(self) -> u32 {
+        match self {
+            Refusal::Trailer => 1,
+            Refusal::OutOfRange => 2,
+            Refusal::Empty => 3,
+            Refusal::Spoiled => 4,
+            Refusal::NotOffered => 5,
+            Refusal::NoRoom => 6,
+            Refusal::AllTaken => 7,
+            Refusal::Sizes => 8,
+            Refusal::Buffer => 9,
+            Refusal::Fault { .. } => 10,
+            Refusal::NothingHeld => 11,
+        }
+    }
+}
+
+impl fmt::Display for Refusal {
+    fn fmt(&self, f: &mut fmt::Formatter<'_>) -> fmt::Result {
+        let text = match self {
+            Refusal::Trailer => "the trailer is not good",
+            Refusal::OutOfRange => "no such slot, no such code, or a coordinate off the grid",
+            Refusal::Empty => "the slot is empty",
+            Refusal::Spoiled => "the slot is spoiled",
+            Refusal::NotOffered => "the rule doesn't offer the move",
+            Refusal::NoRoom => "the queue has no empty slot",
+            Refusal::AllTaken => "all serials are given out",
+            Refusal::Sizes => "width, height or depth is not accepted",
+            Refusal::Buffer => "the buffer has the wrong length",
+            Refusal::Fault { place } => return write!(f, "the full check failed at {place}"),
+            Refusal::NothingHeld => "no slot is held",
+        };
+        f.write_str(text)
+    }
+}
+
+impl Error for Refusal {}
+
+/// A packet taken in.
+#[derive(Clone, Copy, Debug, PartialEq, Eq)]
+pub struct Taken {
+    pub slot: u32,
+    pub serial: u32,
+}
+
+/// What an accepted move did.
+#[derive(Clone, Copy, Debug, PartialEq, Eq)]
+pub enum Moved {
+    /// The packet is now in this slot.
+    To { slot: u32 },
+    /// The packet left, all 16 bytes of it.
+    Delivered { packet: [u8; 16] },
+}
+
+/// A move that would be accepted.
+#[derive(Clone, Copy, Debug, PartialEq, Eq)]
+pub struct Found {
+    pub slot: u32,
+    pub code: u32,
+}
+
+/// A node as source or destination: x + 16 × y.
+///
+/// # Panics
+///
+/// Where x or y is above 15.
+pub const fn node(x: u8, y: u8) -> u8 {
+    assert!(x < 16 && y < 16, "a coordinate is from 0 to 15");
+    x + 16 * y
+}
+
+fn accepted<T>(number: u32, place: u32, answer: T) -> Result<T, Refusal> {
+    Err(match number {
+        0 => return Ok(answer),
+        1 => Refusal::Trailer,
+        2 => Refusal::OutOfRange,
+        3 => Refusal::Empty,
+        4 => Refusal::Spoiled,
+        5 => Refusal::NotOffered,
+        6 => Refusal::NoRoom,
+        7 => Refusal::AllTaken,
+        8 => Refusal::Sizes,
+        9 => Refusal::Buffer,
+        10 => Refusal::Fault { place },
+        11 => Refusal::NothingHeld,
+        _ => unreachable!("no call answers {number}"),
+    })
+}
+
+/// Makes the slice's last part a fresh table; depth 0 means 5. Refused by `Sizes`, then `Buffer` where the slice is shorter than the table.
+pub fn clear(slice: &mut [u8], width: u32, height: u32, depth: u32) -> Result<(), Refusal> {
+    accepted(archive::clear(slice, width, height, depth), 0, ())
+}
+
+/// Puts a packet into the waiting slot of its source. Refused by `Trailer`, `OutOfRange`, `AllTaken`, then `NoRoom`.
+pub fn take_in(
+    slice: &mut [u8],
+    source: u8,
+    destination: u8,
+    payload: [u8; 8],
+) -> Result<Taken, Refusal> {
+    let a = archive::take_in(slice, source, destination, payload);
+    accepted(
+        a.number,
+        0,
+        Taken {
+            slot: a.slot,
+            serial: a.serial,
+        },
+    )
+}
+
+/// Makes the proposed move. Refused by `Trailer`, `OutOfRange`, `Empty`, `Spoiled`, `NotOffered`, then `NoRoom`.
+pub fn make_move(slice: &mut [u8], slot: u32, code: u32) -> Result<Moved, Refusal> {
+    let a = archive::make_move(slice, slot, code);
+    let done = if code == DELIVER {
+        Moved::Delivered { packet: a.packet }
+    } else {
+        Moved::To { slot: a.slot }
+    };
+    accepted(a.number, 0, done)
+}
+
+/// The payload of the packet in a slot. Refused by `Trailer`, `OutOfRange`, `Empty`, then `Spoiled`.
+pub fn read_payload(slice: &[u8], slot: u32) -> Result<[u8; 8], Refusal> {
+    let a = archive::read_payload(slice, slot);
+    accepted(a.number, 0, a.payload)
+}
+
+/// Checks the whole table. Refused by `Trailer`, then `Fault` at its first fault.
+pub fn full_check(slice: &[u8]) -> Result<(), Refusal> {
+    let a = archive::full_check(slice);
+    accepted(a.number, a.place, ())
+}
+
+/// The lowest slot, and for it the lowest code, whose move would be accepted. Refused by `Trailer`, `Fault`, then `NothingHeld`.
+pub fn find(slice: &[u8]) -> Result<Found, Refusal> {
+    let a = archive::find(slice);
+    accepted(
+        a.number,
+        a.slot,
+        Found {
+            slot: a.slot,
+            code: a.code,
+        },
+    )
+}
+
+/// Writes the table into `out` with every payload zero. Refused by `Trailer`, `Fault`, then `Buffer` unless `out` has exactly the table's length.
+pub fn copy_outward(slice: &[u8], out: &mut [u8]) -> Result<(), Refusal> {
+    let a = archive::copy_outward(slice, out);
+    accepted(a.number, a.place, ())
+}
+
+/// Writes the table's listing at the start of `out` and answers that part. The listing of a table that is refused says so in its own words.
+/// Refused by `Buffer` where `out` is shorter than [`LISTING_ROOM`].
+pub fn list<'a>(slice: &[u8], out: &'a mut [u8]) -> Result<&'a [u8], Refusal> {
+    let a = archive::list(slice, out);
+    accepted(a.number, 0, ())?;
+    Ok(&out[..a.length])
+}

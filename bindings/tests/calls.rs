@@ -1,0 +1,213 @@
+//! The archive's calls through the wrapper: each refusal, and a board driven until nothing is held.
+use paneglove::{
+    clear, copy_outward, find, full_check, list, make_move, node, read_payload, take_in, Found,
+    Moved, Refusal, Taken, DELIVER, LISTING_ROOM,
+};
+
+const SLOTS: usize = 80;
+const TABLE: usize = 16 * SLOTS + 16;
+const BEFORE: usize = 3;
+
+/// A 4 by 4 board of depth 2 with bytes before its table, and three packets in it.
+fn board() -> Vec<u8> {
+    let mut s = vec![238; BEFORE + TABLE];
+    clear(&mut s, 4, 4, 2).unwrap();
+    let trips = [
+        (node(0, 0), node(3, 3), 0),
+        (node(3, 3), node(0, 0), 75),
+        (node(0, 3), node(3, 0), 60),
+    ];
+    for (serial, (source, destination, slot)) in (0..).zip(trips) {
+        let payload = [serial as u8 + 1; 8];
+        assert_eq!(
+            take_in(&mut s, source, destination, payload),
+            Ok(Taken { slot, serial })
+        );
+    }
+    s
+}
+
+#[test]
+fn sizes_of_document_01() {
+    assert_eq!(clear(&mut [0; 447], 3, 3, 1), Err(Refusal::Buffer));
+    assert_eq!(clear(&mut [0; 448], 3, 3, 1), Ok(()));
+    assert_eq!(clear(&mut vec![0; 61_456], 16, 16, 7), Ok(()));
+    assert_eq!(clear(&mut vec![0; 61_456], 16, 16, 8), Err(Refusal::Sizes));
+    assert_eq!(clear(&mut [0; 192], 1, 1, 0), Ok(()));
+    assert_eq!(clear(&mut [0; 191], 1, 1, 0), Err(Refusal::Buffer));
+    assert_eq!(clear(&mut [0; 192], 0, 1, 0), Err(Refusal::Sizes));
+}
+
+#[test]
+fn an_empty_slice_is_answered() {
+    assert_eq!(clear(&mut [], 1, 1, 1), Err(Refusal::Buffer));
+    assert_eq!(take_in(&mut [], 0, 0, [0; 8]), Err(Refusal::Trailer));
+    assert_eq!(make_move(&mut [], 0, DELIVER), Err(Refusal::Trailer));
+    assert_eq!(read_payload(&[], 0), Err(Refusal::Trailer));
+    assert_eq!(full_check(&[]), Err(Refusal::Trailer));
+    assert_eq!(find(&[]), Err(Refusal::Trailer));
+    assert_eq!(copy_outward(&[], &mut []), Err(Refusal::Trailer));
+}
+
+#[test]
+fn refusals_change_nothing() {
+    let mut s = board();
+    let before = s.clone();
+    assert_eq!(
+        take_in(&mut s, node(4, 0), 0, [0; 8]),
+        Err(Refusal::OutOfRange)
+    );
+    assert_eq!(take_in(&mut s, node(0, 0), 0, [0; 8]), Err(Refusal::NoRoom));
+    assert_eq!(make_move(&mut s, 80, 1), Err(Refusal::OutOfRange));
+    assert_eq!(make_move(&mut s, 0, 0), Err(Refusal::OutOfRange));
+    assert_eq!(make_move(&mut s, 1, 1), Err(Refusal::Empty));
+    assert_eq!(make_move(&mut s, 0, DELIVER), Err(Refusal::NotOffered));
+    assert_eq!(read_payload(&s, 80), Err(Refusal::OutOfRange));
+    assert_eq!(read_payload(&s, 1), Err(Refusal::Empty));
+    assert_eq!(clear(&mut s, 17, 4, 2), Err(Refusal::Sizes));
+    assert_eq!(s, before);
+}
+
+#[test]
+fn no_serial_is_left() {
+    let mut s = [0; 64];
+    clear(&mut s, 1, 1, 1).unwrap();
+    s[52..60].fill(255);
+    assert_eq!(take_in(&mut s, 0, 0, [0; 8]), Err(Refusal::AllTaken));
+}
+
+#[test]
+fn faults_carry_their_place() {
+    let mut s = board();
+    s[BEFORE + 16 * 5 + 8] = 1;
+    let fault = Refusal::Fault { place: 5 };
+    let mut out = [170; TABLE];
+    assert_eq!(full_check(&s), Err(fault));
+    assert_eq!(find(&s), Err(fault));
+    assert_eq!(copy_outward(&s, &mut out), Err(fault));
+    assert_eq!(make_move(&mut s, 5, 1), Err(Refusal::Spoiled));
+    assert_eq!(read_payload(&s, 5), Err(Refusal::Spoiled));
+    assert_eq!(out, [170; TABLE]);
+    assert_eq!(fault.to_string(), "the full check failed at 5");
+
+    let mut counts = board();
+    counts[BEFORE + 16 * SLOTS + 4] = 4;
+    assert_eq!(full_check(&counts), Err(Refusal::Fault { place: 80 }));
+}
+
+#[test]
+fn payloads_are_read_and_never_shown() {
+    let s = board();
+    assert_eq!(read_payload(&s, 0), Ok([1; 8]));
+    assert_eq!(read_payload(&s, 75), Ok([2; 8]));
+    let mut out = [170; TABLE];
+    assert_eq!(
+        copy_outward(&s, &mut out[..TABLE - 1]),
+        Err(Refusal::Buffer)
+    );
+    assert_eq!(out, [170; TABLE]);
+    assert_eq!(copy_outward(&s, &mut out), Ok(()));
+    let table = &s[BEFORE..];
+    for at in (0..16 * SLOTS).step_by(16) {
+        assert_eq!(out[at..at + 8], table[at..at + 8]);
+        assert_eq!(out[at + 8..at + 16], [0; 8]);
+    }
+    assert_eq!(out[16 * SLOTS..], table[16 * SLOTS..]);
+}
+
+#[test]
+fn following_find_delivers_every_packet() {
+    let mut s = board();
+    let mut delivered = Vec::new();
+    let mut moves = 0;
+    assert_eq!(find(&s), Ok(Found { slot: 0, code: 1 }));
+    while let Ok(Found { slot, code }) = find(&s) {
+        moves += 1;
+        if let Moved::Delivered { packet } = make_move(&mut s, slot, code).unwrap() {
+            delivered.push(packet);
+        }
+        assert_eq!(full_check(&s), Ok(()));
+    }
+    assert_eq!(find(&s), Err(Refusal::NothingHeld));
+    assert!(moves <= 3 * (3 + 6));
+    delivered.sort_by_key(|packet| packet[4]);
+    let ends = [
+        (node(0, 0), node(3, 3)),
+        (node(3, 3), node(0, 0)),
+        (node(0, 3), node(3, 0)),
+    ];
+    for (serial, (source, destination)) in (0..).zip(ends) {
+        let p = serial + 1;
+        assert_eq!(
+            delivered[serial as usize],
+            [
+                1,
+                source,
+                destination,
+                6,
+                serial,
+                0,
+                0,
+                0,
+                p,
+                p,
+                p,
+                p,
+                p,
+                p,
+                p,
+                p
+            ]
+        );
+    }
+    assert_eq!(delivered.len(), 3);
+    assert_eq!(s[..BEFORE], [238; BEFORE]);
+    assert_eq!(s[BEFORE..BEFORE + 16 * SLOTS], [0; 16 * SLOTS]);
+}
+
+#[test]
+fn a_full_queue_refuses() {
+    let mut s = [0; 112];
+    clear(&mut s, 2, 1, 1).unwrap();
+    take_in(&mut s, node(0, 0), node(1, 0), [1; 8]).unwrap();
+    assert_eq!(make_move(&mut s, 0, 1), Ok(Moved::To { slot: 1 }));
+    assert_eq!(make_move(&mut s, 1, 2), Ok(Moved::To { slot: 4 }));
+    take_in(&mut s, node(0, 0), node(1, 0), [2; 8]).unwrap();
+    assert_eq!(make_move(&mut s, 0, 1), Ok(Moved::To { slot: 1 }));
+    assert_eq!(make_move(&mut s, 1, 2), Err(Refusal::NoRoom));
+}
+
+#[test]
+fn every_refusal_has_its_number() {
+    let all = [
+        Refusal::Trailer,
+        Refusal::OutOfRange,
+        Refusal::Empty,
+        Refusal::Spoiled,
+        Refusal::NotOffered,
+        Refusal::NoRoom,
+        Refusal::AllTaken,
+        Refusal::Sizes,
+        Refusal::Buffer,
+        Refusal::Fault { place: 0 },
+        Refusal::NothingHeld,
+    ];
+    for (number, refusal) in (1..).zip(all) {
+        assert_eq!(refusal.number(), number);
+        assert!(!refusal.to_string().is_empty());
+    }
+}
+
+#[test]
+fn the_listing_of_document_01() {
+    let mut s = vec![0; 112];
+    let mut out = vec![7; LISTING_ROOM + 1];
+    clear(&mut s, 2, 1, 1).unwrap();
+    take_in(&mut s, node(0, 0), node(1, 0), [9; 8]).unwrap();
+    let expected: &[u8] =
+        b"grid 2 1 depth 1 taken 1 delivered 0\n0 W 0,0 from 0,0 to 1,0 hops 0 serial 0\nheld 1\n";
+    assert_eq!(list(&s, &mut out), Ok(expected));
+    assert!(out[expected.len()..].iter().all(|&b| b == 7));
+    assert_eq!(list(&s, &mut out[..LISTING_ROOM - 1]), Err(Refusal::Buffer));
+    assert_eq!(list(&[], &mut out), Ok(&b"refused 1\n"[..]));
+}

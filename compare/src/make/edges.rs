@@ -1,0 +1,110 @@
+//! Sizes at the edges, and numbers at the ends of their ranges.
+
+use super::acts::{self, Mood};
+use super::bench::Bench;
+use super::sizes::Sizes;
+use super::traffic;
+use crate::script::Command;
+
+const CORNERS: [(u32, u32); 4] = [(1, 1), (1, 16), (16, 1), (16, 16)];
+
+pub fn make(bench: &mut Bench) {
+    while bench.open() {
+        let (width, height) = bench.dice.pick(&CORNERS);
+        let depth = bench.dice.pick(&[1, 5, 7, 7]);
+        let sizes = Sizes {
+            width,
+            height,
+            depth,
+        };
+        lend_at_the_edge(bench, sizes);
+        for _ in 0..bench.dice.between(30, 200) {
+            if bench.open() {
+                one(bench, sizes);
+            }
+        }
+    }
+}
+
+fn lend_at_the_edge(bench: &mut Bench, sizes: Sizes) {
+    for length in [sizes.length() - 1, sizes.length()] {
+        bench.put(Command::Lend { length });
+        let clear = sizes.clear(&mut bench.dice);
+        bench.call(clear);
+    }
+    for command in sizes_just_outside(sizes) {
+        if bench.dice.percent(30) {
+            bench.call(command);
+        }
+    }
+}
+
+fn sizes_just_outside(sizes: Sizes) -> [Command; 5] {
+    let Sizes {
+        width,
+        height,
+        depth,
+    } = sizes;
+    let clear = |width, height, depth| Command::Clear {
+        width,
+        height,
+        depth,
+    };
+    [
+        clear(0, height, depth),
+        clear(width, 0, depth),
+        clear(17, height, depth),
+        clear(width, 17, depth),
+        clear(width, height, 8),
+    ]
+}
+
+fn one(bench: &mut Bench, sizes: Sizes) {
+    let command = match bench.dice.below(12) {
+        0..=2 => Command::TakeIn {
+            source: node_at_an_end(bench, sizes),
+            destination: node_at_an_end(bench, sizes),
+            payload: bench.dice.payload(),
+        },
+        3..=4 => Command::Move {
+            slot: slot_at_an_end(bench, sizes),
+            code: bench.dice.pick(&[0, 1, 2, 3, 4, 5, 6, 7, 8, u32::MAX]),
+        },
+        5 => Command::Payload {
+            slot: slot_at_an_end(bench, sizes),
+        },
+        6 => return acts::look_at_the_whole_table(bench),
+        7 => return traffic::spell(bench, 5),
+        _ => {
+            let delivering = bench.dice.percent(60);
+            let crowded = None;
+            return acts::move_something(
+                bench,
+                Mood {
+                    delivering,
+                    crowded,
+                },
+            );
+        }
+    };
+    bench.call(command);
+}
+
+fn slot_at_an_end(bench: &mut Bench, sizes: Sizes) -> u32 {
+    let slots = sizes.slots();
+    let ends = [0, 1, slots - 2, slots - 1, slots, slots + 1, u32::MAX];
+    bench.dice.pick(&ends)
+}
+
+fn node_at_an_end(bench: &mut Bench, sizes: Sizes) -> u8 {
+    let coordinate = |bench: &mut Bench, size: u32| {
+        let drawn = match bench.dice.below(20) {
+            0 => size.min(15),
+            1..=8 => size - 1,
+            9..=16 => 0,
+            _ => bench.dice.number() % size,
+        };
+        u8::try_from(drawn).unwrap_or_default()
+    };
+    coordinate(bench, sizes.width) + 16 * coordinate(bench, sizes.height)
+}

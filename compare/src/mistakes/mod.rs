@@ -1,0 +1,34 @@
+//! Second routers with one deliberate mistake each: the comparison must find every one of them.
+
+mod moving;
+mod slots;
+mod taking;
+mod whole_table;
+
+use crate::seven_calls::SevenCalls;
+
+pub const MISTAKES: [(&str, &dyn SevenCalls); 17] = [
+    ("cuts-numbers", &moving::CutsNumbers),
+    ("code-after-slot", &moving::CodeAfterSlot),
+    ("delivers-without-count", &moving::DeliversWithoutCount),
+    ("fall-in-a", &moving::FallInA),
+    ("highest-slot", &moving::HighestSlot),
+    ("hops-to-go", &moving::HopsToGo),
+    ("mark-only", &moving::MarkOnly),
+    ("spoiled-as-empty", &moving::SpoiledAsEmpty),
+    ("clears-before-table", &taking::ClearsBeforeTable),
+    ("depth-zero-refused", &taking::DepthZeroRefused),
+    ("full-before-end", &taking::FullBeforeEnd),
+    ("reads-at-the-end", &taking::ReadsAtTheEnd),
+    ("copy-keeps-payload", &whole_table::CopyKeepsPayload),
+    ("copy-length-first", &whole_table::CopyLengthFirst),
+    ("find-skips-waiting", &whole_table::FindSkipsWaiting),
+    ("skip-count-check", &whole_table::SkipCountCheck),
+    ("skip-serial-check", &whole_table::SkipSerialCheck),
+];
+
+pub fn named(name: &str) -> Option<&'static dyn SevenCalls> {
+    let mut mistakes = MISTAKES.into_iter();
+    let (_, router) = mistakes.find(|(known, _)| *known == name)?;
+    Some(router)
+}

@@ -1,0 +1,70 @@
+//! Move: a proposed move weighed, and made if nothing speaks against it.
+
+use super::grid::SLOT_BYTES;
+use super::packet::Packet;
+use super::refusal::Refusal;
+use super::rule::{offered, Step, CODES};
+use super::slot::Slot;
+use super::table::Table;
+use super::trailer::Trailer;
+
+#[derive(Clone, Copy, Debug, PartialEq, Eq)]
+pub enum Moved {
+    To(usize),
+    Delivered([u8; SLOT_BYTES]),
+}
+
+/// What an acceptable move would do, with the packet as it would then be.
+pub enum Landing {
+    In(usize, Packet),
+    Delivery(Packet),
+}
+
+pub fn make_move(slice: &mut [u8], slot: u32, code: u32) -> Result<Moved, Refusal> {
+    let mut table = Table::open_to_write(slice)?;
+    let slot = usize::try_from(slot).map_err(|_| Refusal::OutOfRange)?;
+    let landing = weigh(&table, slot, code)?;
+    table.put_empty(slot);
+    match landing {
+        Landing::In(target, packet) => {
+            table.put_packet(target, &packet);
+            Ok(Moved::To(target))
+        }
+        Landing::Delivery(packet) => {
+            // A good packet means delivered is below taken: the sum stays in range.
+            let delivered = table.trailer.delivered.saturating_add(1);
+            table.put_trailer(Trailer {
+                delivered,
+                ..table.trailer
+            });
+            Ok(Moved::Delivered(packet.encode()))
+        }
+    }
+}
+
+/// Refusals 2 to 6 in the paper's order.
+pub fn weigh<Bytes: AsRef<[u8]>>(
+    table: &Table<Bytes>,
+    slot: usize,
+    code: u32,
+) -> Result<Landing, Refusal> {
+    let place = table.trailer.grid.place_of(slot);
+    let place = place.ok_or(Refusal::OutOfRange)?;
+    if !CODES.contains(&code) {
+        return Err(Refusal::OutOfRange);
+    }
+    let packet = match table.slot(slot).ok_or(Refusal::OutOfRange)? {
+        Slot::Empty => return Err(Refusal::SlotEmpty),
+        Slot::Spoiled => return Err(Refusal::SlotSpoiled),
+        Slot::Good(packet) => packet,
+    };
+    let step = offered(place, packet.destination, code).ok_or(Refusal::NotOffered)?;
+    let (target, hops) = match step {
+        Step::Delivery => return Ok(Landing::Delivery(packet)),
+        Step::Queue(target) => (target, packet.hops),
+        // A good packet has made at most 30 hops.
+        Step::Hop(target) => (target, packet.hops.saturating_add(1)),
+    };
+    let target = table.lowest_empty(target).ok_or(Refusal::NoEmptySlot)?;
+    Ok(Landing::In(target, Packet { hops, ..packet }))
+}

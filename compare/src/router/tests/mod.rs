@@ -1,0 +1,10 @@
+//! The second router against the cases of document 01.
+
+mod board;
+mod calls;
+mod checking;
+mod easy_to_get_wrong;
+mod edges;
+mod goodness;
+mod refusals;
+mod rule_rows;

@@ -1,0 +1,31 @@
+-- `paneglove::paneglove_copy_outward` meets its contract: the answer of `copy_outward` crosses.
+-- Assumes nothing.
+use mathlib.Core.Path.{ap, _∙_}
+use borrow.Author.Needs.{needs}
+use Rattle.router.specs.Outcome.{outcome}
+use Rattle.survey.specs.declared.copying.Copied as copying
+use Rattle.survey.specs.Copy.{copyAnswer}
+use Rattle.paneglove.specs.declared.Copied.{Copied}
+use Rattle.paneglove.specs.Across.{across, copyAcross, copiedAcross}
+use Rattle.paneglove.proofs.paneglove_copy_outward.Statement.{statement}
+use Rattle.paneglove.proofs.paneglove_copy_outward.Tie as tie
+
+copy-outward-requires : tie.Need-copy-outward-requires
+copy-outward-requires c κs = search needs
+
+copy-across-requires : tie.Need-copy-across-requires
+copy-across-requires c κs = search needs
+
+same-length : tie.Need-same-length
+same-length c = search needs
+
+returns : tie.Need-returns
+unfolding copiedAcross
+returns c =
+    let i = c .before .before .before .copy-outward in
+    ap (λ (a : Copied). outcome a (i .last .1 .0)) (c .copy-across .ensures)
+    ∙ ap (across (λ (a : copying.Copied). copyAcross (copyAnswer a))) (i .ensures)
+
+pub paneglove-copy-outward-spec : {M : Type 1} → statement M
+paneglove-copy-outward-spec =
+    tie.close (tie.spec copy-outward-requires copy-across-requires same-length returns)

@@ -1,0 +1,227 @@
+/*
+ * A repair counter's use of Paneglove: clear a 4 by 4 board, take packets in, show the table to outsiders, follow find until nothing is held.
+ * It prints each answer and exits 1 if anything is not as promised.
+ *
+ *     rt staticlib paneglove
+ *     cc -std=c99 -Wall -Wextra -pedantic -Iinclude examples/counter.c target/staticlib/libpaneglove.a -o target/counter
+ *     target/counter
+ */
+#include <inttypes.h>
+#include <stdio.h>
+#include <stdlib.h>
+#include <string.h>
+
+#include "paneglove.h"
+
+#define WIDTH 4
+#define HEIGHT 4
+#define DEPTH 2
+#define BEFORE 8
+#define SLOTS PANEGLOVE_SLOTS(WIDTH, HEIGHT, DEPTH)
+#define TABLE PANEGLOVE_TABLE_BYTES(WIDTH, HEIGHT, DEPTH)
+#define LENGTH (BEFORE + TABLE)
+
+struct trip {
+    uint8_t source;
+    uint8_t destination;
+    const char *payload;
+};
+
+static const struct trip trips[] = {
+    {PANEGLOVE_NODE(0, 0), PANEGLOVE_NODE(3, 3), "packet 0"}, {PANEGLOVE_NODE(3, 3), PANEGLOVE_NODE(0, 0), "packet 1"},
+    {PANEGLOVE_NODE(0, 3), PANEGLOVE_NODE(3, 0), "packet 2"}, {PANEGLOVE_NODE(3, 0), PANEGLOVE_NODE(0, 3), "packet 3"},
+    {PANEGLOVE_NODE(1, 2), PANEGLOVE_NODE(1, 2), "packet 4"},
+};
+
+#define TRIPS (sizeof trips / sizeof trips[0])
+
+static uint8_t slice[LENGTH];
+static uint8_t earlier[LENGTH];
+static uint8_t out[TABLE];
+static int broken;
+
+static void expect(int holds, const char *promise) {
+    if (!holds) {
+        printf("NOT AS PROMISED: %s\n", promise);
+        broken = 1;
+    }
+}
+
+static void remember(void) {
+    memcpy(earlier, slice, LENGTH);
+}
+
+static int unchanged(void) {
+    return memcmp(earlier, slice, LENGTH) == 0;
+}
+
+static int all_zero(const uint8_t *bytes, size_t length) {
+    size_t i;
+    for (i = 0; i < length; i++) {
+        if (bytes[i] != 0) {
+            return 0;
+        }
+    }
+    return 1;
+}
+
+static unsigned distance(uint8_t a, uint8_t b) {
+    return (unsigned)(abs(a % 16 - b % 16) + abs(a / 16 - b / 16));
+}
+
+static paneglove_payload payload_of(const char *text) {
+    paneglove_payload payload;
+    memcpy(payload.bytes, text, sizeof payload.bytes);
+    return payload;
+}
+
+static paneglove_taken take_in(uint8_t source, uint8_t destination, const char *payload) {
+    paneglove_taken a = paneglove_take_in(slice, LENGTH, source, destination, payload_of(payload));
+    printf("take in: %" PRIu32 ", slot %" PRIu32 ", serial %" PRIu32 "\n", a.number, a.slot, a.serial);
+    return a;
+}
+
+static void take_in_all(void) {
+    size_t i;
+    paneglove_taken a;
+    for (i = 0; i < TRIPS; i++) {
+        a = take_in(trips[i].source, trips[i].destination, trips[i].payload);
+        expect(a.number == PANEGLOVE_ACCEPTED && a.serial == i, "packets are taken in, in the order of their serials");
+    }
+    remember();
+    a = take_in(trips[0].source, trips[0].destination, "too many");
+    expect(a.number == PANEGLOVE_NO_ROOM && a.slot == 0 && a.serial == 0, "a waiting slot holds one packet");
+    a = take_in(PANEGLOVE_NODE(0, 1), PANEGLOVE_NODE(WIDTH, 0), "off grid");
+    expect(a.number == PANEGLOVE_OUT_OF_RANGE, "a destination off the grid is refused");
+    expect(unchanged(), "a refusal changes no byte");
+}
+
+static paneglove_read read_payload(uint32_t slot) {
+    paneglove_read a = paneglove_read_payload(slice, LENGTH, slot);
+    printf("read payload: %" PRIu32 ", '%.*s'\n", a.number, a.number == PANEGLOVE_ACCEPTED ? 8 : 0, (const char *)a.payload);
+    return a;
+}
+
+static void read_payloads(void) {
+    paneglove_read a = read_payload(0);
+    expect(a.number == PANEGLOVE_ACCEPTED && memcmp(a.payload, trips[0].payload, 8) == 0, "the payload is the one handed in");
+    a = read_payload(1);
+    expect(a.number == PANEGLOVE_EMPTY && all_zero(a.payload, 8), "an empty slot has no payload");
+    a = read_payload((uint32_t)SLOTS);
+    expect(a.number == PANEGLOVE_OUT_OF_RANGE && all_zero(a.payload, 8), "there is no slot past the last");
+}
+
+static paneglove_copied copy_outward(size_t out_length) {
+    paneglove_copied a = paneglove_copy_outward(slice, LENGTH, out, out_length);
+    printf("copy outward: %" PRIu32 ", place %" PRIu32 "\n", a.number, a.place);
+    return a;
+}
+
+static void show_outsiders(void) {
+    const uint8_t *table = slice + BEFORE;
+    size_t i;
+    memset(out, 170, TABLE);
+    remember();
+    expect(copy_outward(TABLE - 1).number == PANEGLOVE_BUFFER, "the second buffer has exactly the table's length");
+    for (i = 0; i < TABLE; i++) {
+        expect(out[i] == 170, "a refused copy writes nothing");
+    }
+    expect(copy_outward(TABLE).number == PANEGLOVE_ACCEPTED, "a table that passes is copied");
+    for (i = 0; i < SLOTS; i++) {
+        expect(memcmp(out + 16 * i, table + 16 * i, 8) == 0, "all but payloads is shown");
+        expect(all_zero(out + 16 * i + 8, 8), "no payload is shown");
+    }
+    expect(memcmp(out + 16 * SLOTS, table + 16 * SLOTS, 16) == 0, "the trailer is shown");
+    expect(unchanged(), "the copy changes nothing of the table");
+}
+
+static paneglove_moved make_move(uint32_t slot, uint32_t code) {
+    paneglove_moved a = paneglove_make_move(slice, LENGTH, slot, code);
+    printf("move of slot %" PRIu32 " by code %" PRIu32 ": %" PRIu32 ", slot %" PRIu32 "\n", slot, code, a.number, a.slot);
+    return a;
+}
+
+static void refuse_moves(void) {
+    remember();
+    expect(make_move(0, 8).number == PANEGLOVE_OUT_OF_RANGE, "there is no code 8");
+    expect(make_move(1, PANEGLOVE_ENTER).number == PANEGLOVE_EMPTY, "an empty slot has no moves");
+    expect(make_move(0, PANEGLOVE_RIGHT).number == PANEGLOVE_NOT_OFFERED, "a waiting packet enters first");
+    expect(unchanged(), "a refusal changes no byte");
+}
+
+/* A packet handed out is one of the trips, by its serial; it has been delivered once, after as many hops as its distance. */
+static void receive(const uint8_t *packet, int *delivered) {
+    const struct trip *trip;
+    uint32_t serial = packet[4] + 256u * packet[5] + 65536u * packet[6] + 16777216u * packet[7];
+    printf("delivered: serial %" PRIu32 ", %d hops, '%.8s'\n", serial, packet[3], (const char *)packet + 8);
+    if (serial >= TRIPS) {
+        expect(0, "only packets taken in are delivered");
+        return;
+    }
+    trip = &trips[serial];
+    delivered[serial]++;
+    expect(packet[0] == 1 && packet[1] == trip->source && packet[2] == trip->destination, "a packet is delivered where it was bound for");
+    expect(packet[3] == distance(trip->source, trip->destination), "a packet makes as many hops as its distance");
+    expect(memcmp(packet + 8, trip->payload, 8) == 0, "a packet keeps its payload");
+}
+
+static void follow_find(void) {
+    int delivered[TRIPS] = {0};
+    unsigned most = 0, moves = 0;
+    size_t i;
+    for (i = 0; i < TRIPS; i++) {
+        most += 3 + distance(trips[i].source, trips[i].destination);
+    }
+    for (;;) {
+        paneglove_found f = paneglove_find(slice, LENGTH);
+        paneglove_moved a;
+        printf("find: %" PRIu32 ", slot %" PRIu32 ", code %" PRIu32 "\n", f.number, f.slot, f.code);
+        if (f.number != PANEGLOVE_ACCEPTED) {
+            expect(f.number == PANEGLOVE_NOTHING_HELD, "find ends with 11");
+            break;
+        }
+        a = make_move(f.slot, f.code);
+        moves++;
+        expect(a.number == PANEGLOVE_ACCEPTED, "a move that was found is accepted");
+        if (f.code == PANEGLOVE_DELIVER) {
+            expect(a.slot == 0, "a delivery answers slot 0");
+            receive(a.packet, delivered);
+        } else {
+            expect(all_zero(a.packet, 16), "only a delivery hands out a packet");
+        }
+        if (moves > most) {
+            expect(0, "no more moves are accepted than the sum at the start");
+            break;
+        }
+    }
+    printf("%u moves, of at most %u\n", moves, most);
+    for (i = 0; i < TRIPS; i++) {
+        expect(delivered[i] == 1, "each packet is delivered once");
+    }
+}
+
+static uint32_t check(const uint8_t *bytes, size_t length) {
+    paneglove_checked a = paneglove_full_check(bytes, length);
+    printf("full check: %" PRIu32 ", place %" PRIu32 "\n", a.number, a.place);
+    return a.number;
+}
+
+int main(void) {
+    uint32_t number;
+    memset(slice, 238, LENGTH);
+    number = paneglove_clear(slice, LENGTH, WIDTH, HEIGHT, DEPTH);
+    printf("clear: %" PRIu32 "\n", number);
+    expect(number == PANEGLOVE_ACCEPTED, "a 4 by 4 board is cleared");
+    take_in_all();
+    expect(check(slice, LENGTH) == PANEGLOVE_ACCEPTED, "the table passes the full check");
+    read_payloads();
+    show_outsiders();
+    refuse_moves();
+    follow_find();
+    expect(check(slice, LENGTH) == PANEGLOVE_ACCEPTED, "the table still passes");
+    expect(check(NULL, 0) == PANEGLOVE_TRAILER, "no bytes have no trailer");
+    expect(all_zero(slice + BEFORE, 16 * SLOTS), "a slot left by a packet is 16 zeros");
+    memset(earlier, 238, BEFORE);
+    expect(memcmp(slice, earlier, BEFORE) == 0, "bytes before the table are not written");
+    return broken;
+}
