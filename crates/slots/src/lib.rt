@@ -1,4 +1,5 @@
 // Leaves on bytes: one slot of 16 bytes in a table of slots, lent on as a part of the caller's slice.
+ghost use mathlib.Core.Bool.{_&&_};
 ghost use mathlib.Core.Path.{_≡_};
 ghost use Prim.Native.Nat.{_+_, _*_, _≤_, _<_};
 ghost use lib.ListN.{length, getD, replicate};
@@ -13,18 +14,26 @@ pub fn wide(x: u8) -> usize
     x as usize
 }
 
-// Is every byte zero?
+fn both(a: bool, b: bool) -> bool
+    ensures { λ r. ⌜ r ≡ (a && b) ⌝ }
+{
+    if a {
+        return b;
+    }
+    false
+}
+
+// Is every byte zero? It looks at all of them, whatever the first ones are, so that the compiler can do so at once.
 pub fn all_zero(p: &[u8]) -> bool
     ensures { λ r. ⌜ r ≡ zeros (now (p .entry)) ⌝ }
 {
+    let mut so_far = true;
     let mut i = 0;
     while i < p.len() {
-        if p[i] != 0 {
-            return false;
-        }
+        so_far = both(so_far, p[i] == 0);
         i += 1;
     }
-    true
+    so_far
 }
 
 // Makes every byte zero.
