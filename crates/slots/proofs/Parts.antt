@@ -172,3 +172,14 @@ pub rest-back : (s : List ℕ) (a : ℕ) (w v : List ℕ) → a ≤ length s →
 rest-back s a w v h k q =
     let e : length s - a ≡ length v = sym (sym (ap length q) ∙ k ∙ ap length (lent-rest s a) ∙ length-drop a s) in
     rw (e, q) (put-whole s a v (omega arith))
+
+-- ---- a part read byte by byte
+
+abbrev pub oneByOne : List ℕ → ℕ → ℕ → List ℕ
+oneByOne s at zero = []
+oneByOne s at (suc n) = getD s at 0 ∷ oneByOne s (suc at) n
+
+pub one-by-one : (s : List ℕ) (at n : ℕ) → at + n ≤ length s → oneByOne s at n ≡ part s at n
+one-by-one s at zero l = refl
+one-by-one s at (suc n) l =
+    rw (drop-cons s at 0 (omega arith)) (ap (λ (w : List ℕ). getD s at 0 ∷ w) (one-by-one s (suc at) n (omega arith)))

@@ -1,24 +1,21 @@
--- The outward copy slot by slot and byte by byte, and what it shows of a slot.
+-- The outward copy slot by slot, and what it shows of a slot.
 -- Assumes nothing.
-use Prim.Native.Nat.{ℕ, zero, suc, _+_, _-_, _*_, _/_, _%_, _≤_, _<_}
+use Prim.Native.Nat.{ℕ, zero, suc, _+_, _*_, _≤_, _<_}
 use mathlib.Core.Path.{_≡_, refl, sym, ap, _∙_}
 use mathlib.Core.Logic.{_⊎_, ⊎-elim}
 use mathlib.Core.List.{List}
-use mathlib.Core.Bool.{Bool, true, false, cond}
+use mathlib.Core.Bool.{true}
 use native.Mathlib.Omega.{arith}
-use native.Mathlib.Decide.{decLt}
-use lib.Dec.{leb}
-use lib.ListN.{length, getD, take, drop, replicate, length-append, length-take, length-drop, getD-replicate, List·getD-append}
-use lib.Seq.{length-take-le, getD-append-add, getD-take, getD-drop, take-at, drop-at}
-use borrow.Author.Tests.{leb-true, leb-false, lt-ltb, le-ltb}
-use Rattle.network.proofs.Tests.{cond-false, and-no}
+use native.Mathlib.Decide.{ℕ-discrete}
+use lib.ListN.{length, getD, take, drop, replicate, length-append, length-take, length-drop}
+use lib.Seq.{take-all, length-take-le, take-at, drop-at}
 use Rattle.slots.specs.Bytes.{part}
-use Rattle.slots.specs.Slots.{slotAt, emptySlot, zeros}
-use Rattle.slots.proofs.SlotLaws.{length-slotAt, getD-slotAt, drop-next}
+use Rattle.slots.specs.Slots.{slotAt, withSlot, emptySlot, zeros}
+use Rattle.slots.proofs.SlotLaws.{length-slotAt, length-withSlot, slotAt-same, slotAt-other, drop-next, slots-ext}
 use Rattle.slots.proofs.ZeroLaws.{zeros-emptySlot}
 use Rattle.table.specs.Packets.{fieldsOf}
 use Rattle.table.proofs.PacketLaws.{fields-same, mark-not-zero}
-use Rattle.survey.specs.Copy.{withoutPayload, veiled, shownAt}
+use Rattle.survey.specs.Copy.{withoutPayload, veiled}
 
 -- ---- a slot
 
@@ -48,18 +45,6 @@ module _ (v : List ℕ) (l : length v ≡ 16) where
       ⊎-elim
       (λ e. ap (λ (x : List ℕ). zeros (withoutPayload x)) (zeros-emptySlot v l e) ∙ sym e)
       (λ m. mark-not-zero (withoutPayload v) (ap (λ f. f .mark) fields-shown ∙ m) ∙ sym (mark-not-zero v m))
-
-  byte-shown : (i : ℕ) → i < 16 → getD (withoutPayload v) i 0 ≡ cond (leb 8 i) 0 (getD v i 0)
-  byte-shown i h = go (leb 8 i) refl
-    where
-      go : (b : Bool) → leb 8 i ≡ b → getD (withoutPayload v) i 0 ≡ cond b 0 (getD v i 0)
-      go true e =
-          let g : 8 ≤ i = leb-true _ _ e in
-          let at : length (take 8 v) + (i - 8) ≡ i = omega (arith, front) in
-          rw at at (getD-append-add (take 8 v) (replicate 8 0) (i - 8) 0) ∙ getD-replicate 8 (i - 8) 0 0 (omega arith)
-      go false e =
-          let g : i < 8 = leb-false _ _ e in
-          List·getD-append (take 8 v) (replicate 8 0) 0 i (omega (arith, front)) ∙ getD-take 8 v i 0 g
 
 -- ---- the whole table
 
@@ -92,23 +77,38 @@ pub veiled-end : (n : ℕ) (t : List ℕ) → 16 * n ≤ length t → drop (16 *
 veiled-end zero t l = refl
 veiled-end (suc n) t l = rw (drop-next n (veiled (suc n) t), veiled-next n t l, drop-next n t) (veiled-end n (drop 16 t) (rest-long n t l))
 
-pub veiled-byte : (n : ℕ) (t : List ℕ) (i : ℕ) → 16 * n ≤ length t → getD (veiled n t) i 0 ≡ shownAt t n i
-veiled-byte n t i l = elim (decLt i (16 * n)) [
-  | yes h ↦
-      let k : ℕ = i / 16 in
-      let at : 16 * k + i % 16 ≡ i = omega arith in
-      let m : i % 16 < 16 = omega arith in
-      let v : length (slotAt t k) ≡ 16 = length-slotAt t k (omega arith) in
-      let here : (x : List ℕ) → getD (slotAt x k) (i % 16) 0 ≡ getD x i 0 = λ x. rw at at (getD-slotAt x k (i % 16) m) in
-      sym (here (veiled n t))
-      ∙ ap (λ (x : List ℕ). getD x (i % 16) 0) (veiled-slot n t k (omega arith) l)
-      ∙ byte-shown (slotAt t k) v (i % 16) m
-      ∙ rw (lt-ltb i (16 * n) h, here t)
-  | no h ↦
-      let at : 16 * n + (i - 16 * n) ≡ i = omega arith in
-      let past : (x : List ℕ) → getD (drop (16 * n) x) (i - 16 * n) 0 ≡ getD x i 0 = λ x. rw at at (getD-drop (16 * n) x (i - 16 * n) 0) in
-      sym (past (veiled n t))
-      ∙ ap (λ (x : List ℕ). getD x (i - 16 * n) 0) (veiled-end n t l)
-      ∙ past t
-      ∙ sym (cond-false _ _ (and-no _ (le-ltb i (16 * n) (omega arith))))
-]
+-- the 16 bytes past n slots, as slot n
+last-slot : (n : ℕ) (x : List ℕ) → 16 * n + 16 ≡ length x → drop (16 * n) x ≡ slotAt x n
+unfolding slotAt
+last-slot n x e = sym (take-all 16 (drop (16 * n) x) (rw length-drop (omega arith)))
+
+-- ---- made slot by slot
+
+-- the first k slots of u are the copy's
+abbrev pub Shown : List ℕ → List ℕ → ℕ → Type 0
+Shown t u k = (j : ℕ) → j < k → slotAt u j ≡ withoutPayload (slotAt t j)
+
+module _ (n : ℕ) (t u : List ℕ) (l : 16 * n + 16 ≡ length t) (m : length u ≡ length t) where
+  -- one slot more
+  pub shown-more : (k : ℕ) (v w : List ℕ) → k < n → v ≡ withoutPayload (slotAt t k) → w ≡ withSlot u k v → Shown t u k
+      → (length w ≡ length t) × Shown t w (k + 1)
+  shown-more k v w h e f shown =
+      let fits : 16 * k + 16 ≤ length u = omega arith in
+      let long : length v ≡ 16 = rw e (length-shown (slotAt t k) (length-slotAt t k (omega arith))) in (
+        rw f (length-withSlot u k fits v long ∙ m),
+        λ j g. rw f (elim (ℕ-discrete j k) [
+          | yes q ↦ rw q (slotAt-same u k fits v long ∙ e)
+          | no q ↦ slotAt-other u k fits v long j q ∙ shown j (omega arith)
+        ]),
+      )
+
+  -- and the trailer, as if it were one slot more
+  pub shown-all : (w : List ℕ) → w ≡ withSlot u n (slotAt t n) → Shown t u n → (length w ≡ length t) × (w ≡ veiled n t)
+  shown-all w f shown =
+      let fits : 16 * n + 16 ≤ length u = omega arith in
+      let long = length-slotAt t n (omega arith) in
+      let same : length w ≡ length t = rw f (length-withSlot u n fits (slotAt t n) long ∙ m) in
+      let slots : (k : ℕ) → k < n → slotAt w k ≡ slotAt (veiled n t) k =
+      λ k h. rw f (slotAt-other u n fits (slotAt t n) long k (λ q. omega arith)) ∙ shown k h ∙ sym (veiled-slot n t k h (omega arith)) in
+      let end : slotAt w n ≡ slotAt t n = rw f (slotAt-same u n fits (slotAt t n) long) in
+      (same, slots-ext n w (veiled n t) slots (last-slot n w (l ∙ sym same) ∙ end ∙ sym (last-slot n t l) ∙ sym (veiled-end n t (omega arith))))

@@ -1,11 +1,11 @@
 -- Outward copy: 1, 10, then 9 unless the second buffer has exactly the table's length. It receives the table with the payload of each held
 -- slot zero. (An empty slot is zeros already.)
 -- Assumes nothing.
-use Prim.Native.Nat.{ℕ, zero, suc, _*_, _-_, _%_}
+use Prim.Native.Nat.{ℕ, zero, suc, _-_}
 use mathlib.Core.List.{List, _++_}
-use mathlib.Core.Bool.{cond, _&&_}
-use lib.Dec.{leb, ltb, eqb}
-use lib.ListN.{length, getD, take, drop, replicate}
+use mathlib.Core.Bool.{cond}
+use lib.Dec.{eqb}
+use lib.ListN.{length, take, drop, replicate}
 use Rattle.table.specs.declared.trailer.Head.{Head}
 use Rattle.table.specs.declared.trailer.Headed.{Headed}
 use Rattle.table.specs.declared.trailer.Headed.the-variants.{Good, Bad}
@@ -27,10 +27,6 @@ withoutPayload v = take 8 v ++ replicate 8 0
 abbrev pub veiled : ℕ → List ℕ → List ℕ
 veiled zero t = t
 veiled (suc n) t = withoutPayload (take 16 t) ++ veiled n (drop 16 t)
-
--- the same, byte by byte
-abbrev pub shownAt : List ℕ → ℕ → ℕ → ℕ
-shownAt t n i = cond (ltb i (16 * n) && leb 8 (i % 16)) 0 (getD t i 0)
 
 abbrev pub refusalOf : Checked → Copied
 refusalOf Passes = copied.Done

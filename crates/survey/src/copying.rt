@@ -3,11 +3,12 @@ use crate::checking::Checked;
 use table::trailer::Head;
 use table::trailer::Headed;
 ghost use mathlib.Core.Path.{_≡_};
-ghost use Prim.Native.Nat.{_+_, _*_, _≤_, _<_};
+ghost use Prim.Native.Nat.{_+_, _*_, _≤_};
 ghost use lib.ListN.{length};
+ghost use Rattle.slots.specs.Slots.{slotAt};
 ghost use Rattle.table.specs.Trailer.{Sized};
 ghost use Rattle.router.specs.Outcome.{outcome};
-ghost use Rattle.survey.specs.Copy.{shownAt, veiled, refusalOf, copiedIn, copiedSlice};
+ghost use Rattle.survey.specs.Copy.{withoutPayload, veiled, refusalOf, copiedIn, copiedSlice};
 
 pub enum Copied {
     Done,
@@ -16,31 +17,44 @@ pub enum Copied {
     WrongLength,
 }
 
-// What the copy shows at byte `i`: zero in a slot's payload.
-fn shown_at(t: &[u8], n: usize, i: usize) -> u8
-    requires { ⌜ 16 * n + 16 ≡ length (now t) ⌝ }
-    requires { ⌜ i < length (now t) ⌝ }
-    ensures { λ r. ⌜ r ≡ shownAt (now (t .entry)) n i ⌝ }
+// The bytes of slot `k` with the payload zero, by value.
+fn veiled_slot(t: &[u8], k: usize) -> [u8; 16]
+    requires { ⌜ 16 * k + 16 ≤ length (now t) ⌝ }
+    ensures { λ r. ⌜ r ≡ withoutPayload (slotAt (now (t .entry)) k) ⌝ }
 {
-    if i < 16 * n {
-        if 8 <= i % 16 {
-            return 0;
-        }
-    }
-    t[i]
+    let v = slots::read_slot(t, k);
+    [
+        v[0],
+        v[1],
+        v[2],
+        v[3],
+        v[4],
+        v[5],
+        v[6],
+        v[7],
+        0,
+        0,
+        0,
+        0,
+        0,
+        0,
+        0,
+        0,
+    ]
 }
 
-// Copies a table of `n` slots with every payload zero.
+// Copies a table of `n` slots with every payload zero; the trailer behind them is as long as a slot.
 fn veil(t: &[u8], n: usize, out: &mut [u8])
     requires { ⌜ 16 * n + 16 ≡ length (now t) ⌝ }
     requires { ⌜ length (now out) ≡ length (now t) ⌝ }
     ensures { λ _. ⌜ now (out .exit) ≡ veiled n (now (t .entry)) ⌝ }
 {
-    let mut i = 0;
-    while i < t.len() {
-        out[i] = shown_at(t, n, i);
-        i += 1;
+    let mut k = 0;
+    while k < n {
+        slots::write_slot(out, k, veiled_slot(t, k));
+        k += 1;
     }
+    slots::write_slot(out, n, slots::read_slot(t, n));
 }
 
 // What the copy answers where the check does not pass.

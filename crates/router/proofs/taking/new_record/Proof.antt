@@ -1,25 +1,15 @@
 -- `router::taking::new_record` meets its contract: the payload's bytes, one by one, are the payload.
 -- Assumes nothing.
-use Prim.Native.Nat.{ℕ, zero, suc, _+_}
-use mathlib.Core.Path.{_≡_, sym}
-use mathlib.Core.List.{List, [], _∷_}
+use mathlib.Core.Path.{_≡_}
 use native.Mathlib.Omega.{arith}
 use borrow.Author.Needs.{needs}
-use lib.ListN.{length, getD, drop}
-use lib.Seq.{drop-cons, drop-length}
+use lib.ListN.{length}
+use lib.Seq.{take-all}
 use Rattle.slots.specs.Bytes.{bytes32}
+use Rattle.slots.proofs.Parts.{one-by-one}
 use Rattle.router.specs.TakeIn.{newRecord}
 use Rattle.router.proofs.taking.new_record.Statement.{statement}
 use Rattle.router.proofs.taking.new_record.Tie as tie
-
--- the n bytes from place i, one by one
-abbrev listed : List ℕ → ℕ → ℕ → List ℕ
-listed p i zero = []
-listed p i (suc n) = getD p i 0 ∷ listed p (suc i) n
-
-listed-drop : (p : List ℕ) (i n : ℕ) → i + n ≡ length p → listed p i n ≡ drop i p
-listed-drop p i zero e = let l : i ≡ length p = omega arith in rw (l, drop-length)
-listed-drop p i (suc n) e = rw (listed-drop p (suc i) n (omega arith)) (sym (drop-cons p i 0 (omega arith)))
 
 cast-b0 : tie.Need-cast-b0
 cast-b0 c = search needs
@@ -61,7 +51,7 @@ returns : tie.Need-returns
 unfolding newRecord bytes32
 returns c =
     let l : 8 ≡ length (c .args .payload) = search needs in
-    rw (listed-drop (c .args .payload) 0 8 l)
+    rw (one-by-one (c .args .payload) 0 8 (omega arith)) (rw (take-all 8 (c .args .payload) (omega arith)))
 
 pub new-record-spec : {M : Type 1} → statement M
 new-record-spec =
