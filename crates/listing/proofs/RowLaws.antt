@@ -1,28 +1,20 @@
 -- Laws of the lines of slots: a slot's row, the rows so far, and what the check says of the number held.
 -- Assumes nothing.
-use Prim.Native.Nat.{ℕ, zero, suc, _+_, _-_, _≤_, _<_}
+use Prim.Native.Nat.{ℕ, zero, suc, _+_, _≤_, _<_}
 use mathlib.Core.Path.{_≡_, refl, ap}
-use mathlib.Core.Bool.{Bool, true, false, not, cond}
+use mathlib.Core.Bool.{true, false, not}
 use mathlib.Core.List.{List, [], _++_}
 use native.Mathlib.Decide.{decLt}
 use native.Mathlib.Numerals.{add-one}
 use native.Mathlib.Omega.{arith}
 use lib.ListN.{length, length-append}
-use borrow.Author.Tests.{eqb-true}
-use Rattle.network.proofs.Tests.{clash, cond-true, cond-false}
+use Rattle.network.proofs.Tests.{cond-true, cond-false}
 use Rattle.slots.specs.Slots.{slotAt, zeros}
 use Rattle.table.specs.declared.trailer.Head.{Head}
 use Rattle.table.specs.Layout.{layoutOf}
 use Rattle.table.specs.Packets.{itemIn, fieldsOf, itemBy}
-use Rattle.survey.specs.declared.checking.Checked.the-variants.{Passes, FaultAt}
-use Rattle.survey.specs.Check.{heldBelow, firstSpoiled, firstRepeat, countsOk, serialsOk, checkedIn}
-use Rattle.survey.proofs.Meaning.{none-or}
 use Rattle.text.specs.Put.{Fits}
 use Rattle.listing.specs.Lines.{packetText, slotLine, rowAt, rowsBelow}
-
-counted : (b : Bool) (n : ℕ) → cond b Passes (FaultAt n) ≡ Passes → b ≡ true
-counted true n e = refl
-counted false n e = clash cc
 
 module _ (h : Head) (t : List ℕ) where
   module _ (k : ℕ) where
@@ -68,11 +60,3 @@ module _ (h : Head) (t : List ℕ) where
       let g = rows-grow n (k + 1) (omega arith) in
       let all : Fits d at (rowsBelow h t (k + 1)) = record { room = omega (arith, f .room) } in
       rw (rows-more k) at all
-
-  -- a table that passes holds as many packets as are taken in and not delivered
-  pub held-counted : checkedIn h t ≡ Passes → h .taken - h .delivered ≡ heldBelow t (layoutOf h .size)
-  unfolding checkedIn serialsOk countsOk
-  held-counted e =
-      let a = none-or (firstSpoiled h t) (serialsOk h t) e in
-      let b = none-or (firstRepeat t (layoutOf h .size)) (countsOk h t) (a .1) in
-      eqb-true (h .taken - h .delivered) (heldBelow t (layoutOf h .size)) (counted _ (layoutOf h .size) (b .1))

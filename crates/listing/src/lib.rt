@@ -5,7 +5,7 @@ ghost use lib.ListN.{length};
 ghost use Rattle.listing.specs.Output.{most, room};
 
 pub mod answering;
-pub mod writing;
+mod writing;
 
 pub use answering::check_line;
 pub use answering::list_table;

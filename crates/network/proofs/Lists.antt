@@ -2,7 +2,7 @@
 -- Assumes nothing.
 use mathlib.Core.Path.{_≡_, refl, sym, ap, subst, _∙_}
 use mathlib.Core.Logic.{_⊎_, inl, inr, _≢_}
-use mathlib.Core.List.{List, [], _∷_, _++_, map}
+use mathlib.Core.List.{List, [], _∷_, _++_, map, map-append}
 use mathlib.Core.List.{List·Permᴰ, List·Permᴰ·nil, List·Permᴰ·cons, List·Permᴰ·swap, List·Permᴰ·trans, Permᴰ·refl, Permᴰ·symm, Permᴰ·append-left, Permᴰ·middle}
 use mathlib.Core.List.{List·Memᴰ, List·Memᴰ·head, List·Memᴰ·tail, List·Memᴰ·append-cases, Memᴰ·append-left, Memᴰ·append-right}
 use Prim.Native.Nat.{ℕ, zero, suc, _<_}
@@ -73,7 +73,7 @@ module _ {A : Type 0} where
           pick (inl r) = inr (x, List·Memᴰ·head refl, p, ((λ _. self), all-map (λ z k q. tra x (b .0) z r (k q)) l (b .3)))
           pick (inr r) = inr (b .0, List·Memᴰ·tail (b .1), b .2, ((λ _. r), b .3))
 
-  collect-same : (g g′ : ℕ → List A) (n : ℕ) → ((j : ℕ) → j < n → g′ j ≡ g j) → collect g′ n ≡ collect g n
+  pub collect-same : (g g′ : ℕ → List A) (n : ℕ) → ((j : ℕ) → j < n → g′ j ≡ g j) → collect g′ n ≡ collect g n
   collect-same g g′ zero h = refl
   collect-same g g′ (suc n) h = cc (h n (omega arith), collect-same g g′ n (λ j k. h j (omega arith)))
 
@@ -113,6 +113,14 @@ module _ {A : Type 0} where
 
   pub collect-all : (P : A → Type 0) (g : ℕ → List A) (n : ℕ) → All P (collect g n) → (i : ℕ) → i < n → All P (g i)
   collect-all P g n h i l = mem-all P (g i) (λ x m. all-mem P (mem-collect g n i l m) h)
+
+  pub collect-none : (g : ℕ → List A) (n : ℕ) → ((i : ℕ) → i < n → g i ≡ []) → collect g n ≡ []
+  collect-none g zero e = refl
+  collect-none g (suc n) e = rw (e n (omega arith)) (collect-none g n (λ i l. e i (omega arith)))
+
+pub map-collect : {A B : Type 0} (f : A → B) (g : ℕ → List A) (n : ℕ) → map f (collect g n) ≡ collect (λ i. map f (g i)) n
+map-collect f g zero = refl
+map-collect f g (suc n) = map-append f (g n) (collect g n) ∙ ap (λ l. map f (g n) ++ l) (map-collect f g n)
 
 -- of the images of a list
 module _ {A B : Type 0} (P : B → Type 0) (f : A → B) where

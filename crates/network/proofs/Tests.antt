@@ -1,7 +1,7 @@
 -- Tests joined by `_&&_`, chains of them, what a test of a call's Bool says of the definition that the call ensures, and cases that cannot be.
 -- Assumes nothing.
 use mathlib.Core.Path.{_≡_, refl, sym, ap, _∙_}
-use mathlib.Core.Bool.{Bool, true, false, not, cond, _&&_, false≢true}
+use mathlib.Core.Bool.{Bool, true, false, not, cond, _&&_, _||_, false≢true}
 use Prim.Native.Nat.{ℕ}
 use native.Mathlib.Omega.{arith}
 use borrow.Author.Tests.{not-true, not-false}
@@ -50,3 +50,7 @@ and-yes {b = b} e = ap (λ (a : Bool). a && b) e
 
 pub and-no : {a : Bool} (b : Bool) → a ≡ false → (a && b) ≡ false
 and-no b e = ap (λ (a : Bool). a && b) e
+
+pub neither : (a b : Bool) → (a || b) ≡ false → (a ≡ false) × (b ≡ false)
+neither true b e = clash cc
+neither false b e = (refl, e)

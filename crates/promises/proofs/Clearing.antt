@@ -1,6 +1,6 @@
 -- An accepted clear leaves a slice that stands, with both counts 0.
 -- Assumes nothing.
-use Prim.Native.Nat.{ℕ, zero, suc, _-_, _<_}
+use Prim.Native.Nat.{ℕ, _-_}
 use mathlib.Core.Path.{_≡_, refl, sym, ap, subst, _∙_}
 use mathlib.Core.Bool.{Bool, true, false, cond}
 use mathlib.Core.List.{List, [], _++_}
@@ -8,10 +8,10 @@ use native.Mathlib.Omega.{arith}
 use lib.Dec.{eqb}
 use lib.ListN.{length, take}
 use borrow.Author.Tests.{eqb-true, not-false}
-use Rattle.network.specs.Lists.{collect}
 use Rattle.network.specs.Contents.{Contents, Passing}
 use Rattle.network.specs.Net.{Net}
 use Rattle.network.specs.View.{seen, itemsOf}
+use Rattle.network.proofs.Lists.{collect-none}
 use Rattle.table.specs.Refusals.{firstDue}
 use Rattle.table.specs.Trailer.{Dims, slotCount, tableSize, fresh}
 use Rattle.table.specs.Layout.{layoutOf}
@@ -25,10 +25,6 @@ use Rattle.promises.proofs.Standing.{Stands, stands-after}
 
 -- ---- a fresh table holds nothing
 
-none-collected : {A : Type 0} (g : ℕ → List A) (n : ℕ) → ((i : ℕ) → i < n → g i ≡ []) → collect g n ≡ []
-none-collected g zero f = refl
-none-collected g (suc n) f = rw (f n (omega arith)) (none-collected g n (λ i l. f i (omega arith)))
-
 nothing-passes : (N : Net) (b : Contents) → b .items ≡ [] → b .taken ≡ 0 → b .delivered ≡ 0 → Passing N b
 nothing-passes N b e t d = record { sound = rw e tt; distinct = rw e tt; counted = rw (e, t, d) }
 
@@ -36,7 +32,7 @@ module _ (width height depth : ℕ) where
   fresh-nothing : itemsOf (layoutOf (freshHead width height depth)) (viewOf (freshHead width height depth) (fresh width height depth)) ≡ []
   unfolding layoutOf
   fresh-nothing =
-      none-collected _ (slotCount width height depth)
+      collect-none _ (slotCount width height depth)
       (λ i l. ap (λ (v : List ℕ). seen (layoutOf (freshHead width height depth)) i (slotOf v)) (fresh-slots width height depth i l))
 
   fresh-stands : (p : List ℕ) → Dims width height depth → Stands (p ++ fresh width height depth) (freshHead width height depth)

@@ -9,14 +9,13 @@ use native.Mathlib.Omega.{arith}
 use lib.Dec.{eqb}
 use lib.ListN.{length, getD}
 use borrow.Author.Tests.{eqb-true, eqb-false, eq-eqb}
-use Rattle.network.specs.Lists.{collect}
 use Rattle.network.specs.Net.{Net}
 use Rattle.network.specs.Packet.{Item, bound}
 use Rattle.network.specs.Contents.{Passing}
 use Rattle.network.specs.View.{empty, held, Layout, seen, contents}
 use Rattle.network.specs.Run.{trace}
 use Rattle.network.specs.Drain.{sum, bounds, Drains}
-use Rattle.network.proofs.Lists.{map-perm}
+use Rattle.network.proofs.Lists.{map-perm, collect-same, collect-none, map-collect}
 use Rattle.slots.specs.Slots.{zeros}
 use Rattle.slots.proofs.SlotLaws.{length-slotAt}
 use Rattle.table.specs.declared.trailer.Headed.the-variants.{Good}
@@ -46,14 +45,6 @@ use Rattle.promises.proofs.Finding.{not-stuck, found-accepted, found-lo
 
 -- ---- what packets are bound for, as bytes
 
-map-collect : {A B : Type 0} (f : A → B) (g : ℕ → List A) (n : ℕ) → map f (collect g n) ≡ collect (λ k. map f (g k)) n
-map-collect f g zero = refl
-map-collect f g (suc n) = map-append f (g n) (collect g n) ∙ ap (λ l. map f (g n) ++ l) (map-collect f g n)
-
-collect-same : {A : Type 0} (g g′ : ℕ → List A) (n : ℕ) → ((k : ℕ) → k < n → g k ≡ g′ k) → collect g n ≡ collect g′ n
-collect-same g g′ zero e = refl
-collect-same g g′ (suc n) e = λ i. e n (omega arith) i ++ collect-same g g′ n (λ k l. e k (omega arith)) i
-
 bytes-table : (u : List ℕ) → Bytes u → Bytes (tableIn u)
 unfolding tableIn
 bytes-table u b = bytes-drop (length u - headIn u .size) u b
@@ -72,18 +63,11 @@ bounds-bytes u g b =
     let there : ℕ → List Item = λ k. seen (layoutIn u) k (see u .at k) in
     ap (map asGiven) (map-collect (bound (netIn u)) there (slotsIn u))
     ∙ map-collect asGiven (λ k. map (bound (netIn u)) (there k)) (slotsIn u)
-    ∙ collect-same _ (boundAt u) (slotsIn u)
+    ∙ collect-same (boundAt u) _ (slotsIn u)
     (λ k l. slot-bound (netIn u) (layoutIn u) k (slotIn u k) (length-slotAt (tableIn u) k (slot-fits (sized u g) k l)) (bytes-slot (tableIn u) k (bytes-table u b)))
 
 no-bounds : (u : List ℕ) → GoodIn u → NothingHeld u → boundsIn u ≡ []
-no-bounds u g none = collect-same (boundAt u) (λ k. []) (slotsIn u) (λ k l. empty-bound k l) ∙ nothing (slotsIn u)
-  where
-    empty-bound : (k : ℕ) → k < slotsIn u → boundAt u k ≡ []
-    empty-bound k l = rw (empty-zeros u g k (none k l))
-
-    nothing : (n : ℕ) → collect {A = Given} (λ k. []) n ≡ []
-    nothing zero = refl
-    nothing (suc n) = nothing n
+no-bounds u g none = collect-none (boundAt u) (slotsIn u) (λ k l. rw (empty-zeros u g k (none k l)))
 
 -- ---- after any calls
 

@@ -66,10 +66,6 @@ pub either : {A B : Type 0} (a b : Bool) → (a ≡ true → A) → (b ≡ true 
 either true b f g e = inl (f refl)
 either false b f g e = inr (g e)
 
-pub neither : (a b : Bool) → (a || b) ≡ false → (a ≡ false) × (b ≡ false)
-neither true b e = clash cc
-neither false b e = (refl, e)
-
 -- ---- refusal 1 comes first
 
 -- the refusals after the first

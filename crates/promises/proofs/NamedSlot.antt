@@ -12,7 +12,7 @@ use lib.ListN.{length, drop}
 use borrow.Author.Tests.{not-false, leb-true, leb-false, eqb-true}
 use Rattle.network.specs.declared.Lead.{Lead}
 use Rattle.network.specs.declared.Lead.the-variants.{NotOffered}
-use Rattle.network.proofs.Tests.{clash}
+use Rattle.network.proofs.Tests.{clash, neither}
 use Rattle.slots.specs.Slots.{slotAt, emptySlot, zeros}
 use Rattle.table.specs.declared.trailer.Headed.{Headed}
 use Rattle.table.specs.declared.trailer.Headed.the-variants.{Good, Bad}
@@ -34,7 +34,7 @@ use Rattle.promises.proofs.Reading.{good-is}
 use Rattle.promises.proofs.Unchanged.{move-refused}
 use Rattle.promises.proofs.Conditions.{lead-is, barred-never, is-code, code-known, zeros-held, empty-zeros, zeros-empty, good-test, test-good, room-free, free-room}
 use Rattle.promises.proofs.OneStep.{number-is}
-use Rattle.promises.proofs.Grounds.{Tells, first-due, not-due, not-both, joined, either, neither, later, first-trailer, refuses, exactly-first}
+use Rattle.promises.proofs.Grounds.{Tells, first-due, not-due, not-both, joined, either, later, first-trailer, refuses, exactly-first}
 
 -- ---- a named slot
 

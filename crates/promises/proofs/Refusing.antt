@@ -11,6 +11,7 @@ use lib.ListN.{length}
 use borrow.Author.Tests.{not-true, not-false, ltb-true, ltb-false, eqb-true, eqb-false}
 use Rattle.network.specs.declared.Kind.the-variants.{Waiting}
 use Rattle.network.specs.Net.{at}
+use Rattle.network.proofs.Tests.{neither}
 use Rattle.table.specs.declared.trailer.Headed.the-variants.{Bad}
 use Rattle.table.specs.Refusals.{Row, row, firstDue}
 use Rattle.table.specs.Trailer.{tableSize, trailerOf}
@@ -28,7 +29,7 @@ use Rattle.promises.proofs.Unchanged.{clear-refused, take-refused}
 use Rattle.promises.proofs.Conditions.{full-none, room-has-empty}
 use Rattle.promises.proofs.Clearing.{due-number}
 use Rattle.promises.proofs.Taking.{berth-number}
-use Rattle.promises.proofs.Grounds.{Tells, first-due, not-due, not-both, joined, either, neither, later, first-trailer, refuses}
+use Rattle.promises.proofs.Grounds.{Tells, first-due, not-due, not-both, joined, either, later, first-trailer, refuses}
 
 -- ---- clear
 

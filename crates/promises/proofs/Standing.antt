@@ -2,7 +2,7 @@
 -- answers 0.
 -- Assumes nothing.
 use Prim.Native.Nat.{ℕ, _-_, _<_, _^_}
-use mathlib.Core.Path.{_≡_, sym, ap, subst, _∙_}
+use mathlib.Core.Path.{_≡_, sym, subst}
 use mathlib.Core.List.{List, _++_}
 use lib.ListN.{length, drop}
 use Rattle.network.specs.Contents.{Passing}
@@ -13,12 +13,11 @@ use Rattle.table.specs.Trailer.{trailerOf}
 use Rattle.table.specs.Layout.{netOf, layoutOf}
 use Rattle.table.specs.Packets.{viewOf}
 use Rattle.table.proofs.TrailerLaws.{trailer-after}
-use Rattle.survey.specs.declared.checking.Checked.the-variants.{Passes}
-use Rattle.survey.specs.Check.{checkedBy, checkAnswer, checkedSlice}
-use Rattle.survey.proofs.Meaning.{means-passes}
+use Rattle.survey.specs.Check.{checkAnswer, checkedSlice}
 use Rattle.promises.specs.Slices.{netIn, see, contentsIn}
-use Rattle.promises.proofs.Reading.{head-is}
+use Rattle.promises.proofs.Reading.{head-is, good-in}
 use Rattle.promises.proofs.Slices.{see-after, see-good}
+use Rattle.promises.proofs.Checked.{passes-in}
 
 pub record Stands (s : List ℕ) (h : Head) : Type 0 where
   pub head : trailerOf s ≡ Good h
@@ -43,7 +42,4 @@ pub stands-in : (s : List ℕ) (h : Head) → Stands s h → Passing (netIn s) (
 stands-in s h a = subst (λ (g : Head). Passing (netOf g) (contents (layoutOf g) (see s))) (sym (head-is s (a .head))) (a .passing)
 
 pub stands-checked : (s : List ℕ) (h : Head) → Stands s h → checkAnswer (checkedSlice s) .number ≡ 0
-unfolding checkedSlice
-stands-checked s h a =
-    let c : checkedSlice s ≡ Passes = ap (checkedBy s) (a .head) ∙ means-passes h (drop (length s - h .size) s) (table-passing s h a) in
-    rw c
+stands-checked s h a = rw (passes-in s (good-in s (a .head)) (stands-in s h a))

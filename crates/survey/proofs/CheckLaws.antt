@@ -15,7 +15,7 @@ use mir.Syntax.{w32}
 use mir.Val.{Fits}
 use borrow.Author.Count.{below-more}
 use borrow.Author.Tests.{eqb-true, eq-eqb}
-use Rattle.network.proofs.Tests.{and-both, clash, cond-true, cond-false}
+use Rattle.network.proofs.Tests.{and-both, clash, cond-true, cond-false, neither}
 use Rattle.table.specs.declared.trailer.Head.{Head}
 use Rattle.table.specs.Trailer.{Sized}
 use Rattle.table.specs.Layout.{GoodHead, layoutOf}
@@ -93,10 +93,6 @@ module _ (t : List ℕ) (k : ℕ) where
 
   pub held-same : heldAt t k ≡ false → heldBelow t (k + 1) ≡ heldBelow t k
   held-same e = rw (add-one k, e) (omega arith)
-
-neither : (a b : Bool) → (a || b) ≡ false → (a ≡ false) × (b ≡ false)
-neither true b e = clash cc
-neither false b e = (refl, e)
 
 module _ (t : List ℕ) (s : ℕ) where
   serial-step : (k : ℕ) → 0 < k → hasSerial t s k ≡ ((heldAt t (k - 1) && eqb (serialAt t (k - 1)) s) || hasSerial t s (k - 1))

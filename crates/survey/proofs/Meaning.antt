@@ -133,6 +133,14 @@ module _ (h : Head) (t : List ℕ) where
   abbrev Sound : Item → Type 0
   Sound = Good (netOf h) (h .taken) (h .delivered)
 
+  -- taken less delivered is the number of held slots
+  pub passes-counted : checkedIn h t ≡ Passes → h .taken - h .delivered ≡ heldBelow t size
+  unfolding checkedIn serialsOk countsOk
+  passes-counted e =
+      let a = none-or (firstSpoiled h t) (serialsOk h t) e in
+      let b = none-or (firstRepeat t size) (countsOk h t) (a .1) in
+      eqb-true (h .taken - h .delivered) (heldBelow t size) (chosen _ size (b .1))
+
   pub passes-means : GoodHead h → h .delivered ≤ h .taken → checkedIn h t ≡ Passes → Passing (netOf h) (contents (layoutOf h) (viewOf h t))
   unfolding checkedIn serialsOk countsOk firstSpoiled firstRepeat
   passes-means g d e =
@@ -140,7 +148,7 @@ module _ (h : Head) (t : List ℕ) where
       let b = none-or (firstRepeat t size) (countsOk h t) (a .1) in
       let good = first-none (spoiledAt h t) 0 size (a .0) in
       let fresh = first-none (repeatsAt t) 0 size (b .0) in
-      let n = eqb-true (h .taken - h .delivered) (heldBelow t size) (chosen _ size (b .1)) in
+      let n = passes-counted e in
       let all : h .taken ≡ h .delivered + length (collect (there h t) size) = omega (arith, count-held h t size) in
       record {
         sound = all-held h t Sound size (λ i l p. good-here h t i (not-false _ (sym (and-yes p) ∙ good .lacks i (omega arith) (omega arith))) g l);

@@ -3,7 +3,7 @@
 use borrow.Author.Needs.{needs}
 use Rattle.text.proofs.PutLaws.{first-fits, next-fits, then}
 use Rattle.listing.specs.Lines.{tableLines}
-use Rattle.listing.proofs.RowLaws.{held-counted}
+use Rattle.survey.proofs.Meaning.{passes-counted}
 use Rattle.listing.proofs.writing.put_table.Statement.{statement}
 use Rattle.listing.proofs.writing.put_table.Tie as tie
 
@@ -29,7 +29,7 @@ put-last-requires c κs =
     let q = c .before .before .before .before in
     let p = q .before .before .before .before in
     let s = p .before .before .before .before in
-    rw (held-counted (s .args .h) (s .args .t .now) (s .pre .1 .1 .0))
+    rw (passes-counted (s .args .h) (s .args .t .now) (s .pre .1 .1 .0))
     (next-fits (then (p .put-head .ensures) (q .put-rows .ensures)) (s .pre .1 .1 .1))
 
 same-length : tie.Need-same-length
@@ -42,7 +42,7 @@ returns c =
     let q = r .before .before .before .before .before in
     let p = q .before .before .before .before in
     let s = p .before .before .before .before in
-    let w = rw (held-counted (s .args .h) (s .args .t .now) (s .pre .1 .1 .0)) at (r .put-last .ensures) in
+    let w = rw (passes-counted (s .args .h) (s .args .t .now) (s .pre .1 .1 .0)) at (r .put-last .ensures) in
     then (then (p .put-head .ensures) (q .put-rows .ensures)) w
 
 pub put-table-spec : {M : Type 1} → statement M
