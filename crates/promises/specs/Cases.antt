@@ -1,7 +1,9 @@
--- Document 01's cases marked P, as a table: what is asked, and what the answer must be.
+-- Document 01's cases marked P, as a table: what is asked, and what the answer must be. What can be asked of the calls is asked of them, on bytes.
 -- Assumes nothing.
-use mathlib.Core.List.{List, [], _∷_}
 use Prim.Native.Nat.{ℕ, zero, suc}
+use mathlib.Core.Bool.{cond}
+use mathlib.Core.List.{List, [], _∷_}
+use lib.Dec.{eqb}
 use lib.ListN.{take, replicate}
 use Rattle.network.specs.declared.Kind.{Kind}
 use Rattle.network.specs.declared.Kind.the-variants.{Waiting, A, B}
@@ -9,15 +11,17 @@ use Rattle.network.specs.declared.Place.{Place}
 use Rattle.network.specs.declared.Lead.{Lead}
 use Rattle.network.specs.declared.Lead.the-variants.{Hop, Turn, Out, NotOffered}
 use Rattle.network.specs.Net.{Net, at}
-use Rattle.network.specs.Packet.{Item, Delivery, offer, hopped, turned, handed}
-use Rattle.network.specs.Drain.{sum}
+use Rattle.network.specs.Packet.{Item, offer}
 use Rattle.mesh.specs.Grid.{node, xOf, yOf}
 use Rattle.mesh.specs.Mesh.{mesh}
 use Rattle.slots.specs.Slots.{slotAt}
-use Rattle.table.specs.declared.trailer.Head.{Head}
-use Rattle.table.specs.Trailer.{slotCount, tableSize}
-use Rattle.table.specs.Layout.{numberOf, layoutOf}
-use Rattle.router.specs.Clear.{depthUsed, cleared}
+use Rattle.table.specs.Layout.{numberOf}
+use Rattle.router.specs.Outcome.{Outcome}
+use Rattle.promises.specs.Slices.{headIn, slotsIn, placeIn}
+use Rattle.promises.specs.Router.{ours}
+use Rattle.promises.specs.Demand3.{sumIn}
+
+-- ---- the rule
 
 -- the grid of the cases of the rule
 abbrev pub grid : Net
@@ -41,36 +45,17 @@ abbrev pub offered : Item → List ℕ → List ℕ
 offered x [] = []
 offered x (code ∷ l) = kept code (offered x l) (offer grid x code)
 
--- a packet on its way, with the moves it has made; or delivered; or refused a move
-pub data Walk : Type 0 where
-  walking : ℕ → Item → Walk
-  arrived : ℕ → Delivery → Walk
-  refused : Walk
+-- ---- sizes and places
 
-abbrev led : ℕ → Item → Lead → Walk
-led moves x (Hop n) = walking (suc moves) (hopped x n)
-led moves x (Turn k) = walking (suc moves) (turned x k)
-led moves x Out = arrived (suc moves) (handed x)
-led moves x NotOffered = refused
+-- a clear of a slice of n zeros
+abbrev made : ℕ → ℕ → ℕ → ℕ → Outcome ℕ (List ℕ)
+made width height depth n = ours .clear (replicate n 0) width height depth
 
-abbrev next : Walk → ℕ → Walk
-next (walking moves x) code = led moves x (offer grid x code)
-next (arrived moves d) code = refused
-next refused code = refused
-
-abbrev pub walk : Walk → List ℕ → Walk
-walk s [] = s
-walk s (code ∷ l) = walk (next s code) l
-
--- the moves, the hops recorded and the node of a delivery
-abbrev outcome : Walk → List ℕ
-outcome (walking moves x) = []
-outcome (arrived moves d) = moves ∷ d .packet .hops ∷ d .node ∷ []
-outcome refused = []
-
--- a fresh table's head, as far as its layout goes
-abbrev headOf : ℕ → ℕ → ℕ → Head
-headOf width height depth = record { width = width; height = height; depth = depth; taken = 0; delivered = 0; size = tableSize width height depth }
+-- its number and, where that is 0, what the trailer made then tells: the depth used, S and the table's bytes
+abbrev told : Outcome ℕ (List ℕ) → List ℕ
+told o =
+    let u = o .bytes in
+    cond (eqb (o .answer) 0) (0 ∷ headIn u .depth ∷ slotsIn u ∷ headIn u .size ∷ []) (o .answer ∷ [])
 
 -- the kinds by number: waiting, A, B
 abbrev kindNumber : Kind → ℕ
@@ -87,34 +72,74 @@ abbrev offsets : ℕ → ℕ → List ℕ
 offsets k zero = []
 offsets k (suc n) = k ∷ offsets (suc k) n
 
--- a question
+-- ---- walks
+
+abbrev payload : List ℕ
+payload = 11 ∷ 12 ∷ 13 ∷ 14 ∷ 15 ∷ 16 ∷ 17 ∷ 18 ∷ []
+
+-- a packet on its way, by the moves made, the slice and its slot; or handed out, by the moves, the node left and the 16 bytes; or refused
+pub data Walk : Type 0 where
+  walking : ℕ → List ℕ → ℕ → Walk
+  arrived : ℕ → ℕ → List ℕ → Walk
+  refused : Walk
+
+-- one packet taken in on a fresh board of 3 by 3 and depth 1
+abbrev start : ℕ → ℕ → Walk
+start source destination =
+    let o = ours .take-in (made 3 3 1 448 .bytes) source destination payload in
+    cond (eqb (o .answer .number) 0) (walking 0 (o .bytes) (o .answer .slot)) refused
+
+abbrev next : Walk → ℕ → Walk
+next (walking moves s slot) code =
+    let o = ours .make-move s slot code in
+    cond (eqb (o .answer .number) 0)
+    (cond (eqb code 7) (arrived (suc moves) (placeIn s slot .node) (o .answer .packet)) (walking (suc moves) (o .bytes) (o .answer .slot)))
+    refused
+next (arrived moves n packet) code = refused
+next refused code = refused
+
+abbrev walk : Walk → List ℕ → Walk
+walk w [] = w
+walk w (code ∷ l) = walk (next w code) l
+
+-- demand 3's sum of the table walked on
+abbrev sumOf : Walk → List ℕ
+sumOf (walking moves s slot) = sumIn s ∷ []
+sumOf (arrived moves n packet) = []
+sumOf refused = []
+
+-- the moves, the node and the 16 bytes of a delivery
+abbrev deliveryOf : Walk → List ℕ
+deliveryOf (walking moves s slot) = []
+deliveryOf (arrived moves n packet) = moves ∷ n ∷ packet
+deliveryOf refused = []
+
+-- ---- the questions
+
 pub data Question : Type 0 where
   -- the codes that the rule offers, of all that there are
   codes : Item → Question
   -- the distance between two nodes
   apart : ℕ → ℕ → Question
-  -- demand 3's sum over these packets
-  summed : List Item → Question
-  -- a walk by these codes: its moves, its hops, and the node where it ends in delivery
-  walked : Item → List ℕ → Question
-  -- for a clear with this width, height and depth: the depth used, S, and the table's bytes
-  sized : ℕ → ℕ → ℕ → Question
-  -- the number that a clear answers for a slice of so many bytes
+  -- a clear with this width, height and depth of a slice of so many bytes: its number, and the depth used, S and the table's bytes
   clears : ℕ → ℕ → ℕ → ℕ → Question
-  -- in a table of this width, height and depth, a slot's place: its node's number, x, y and kind
-  placed : ℕ → ℕ → ℕ → ℕ → Question
+  -- in a fresh 3 by 3 table of depth 1, a slot's place: its node's number, x, y and kind
+  placed : ℕ → Question
   -- where a slot's first byte is, in a table of 448 bytes
   byteOf : ℕ → Question
+  -- demand 3's sum, of a packet taken in from a source to a destination
+  summed : ℕ → ℕ → Question
+  -- the walk of such a packet by these codes: its moves, the node where it is delivered, and the packet's 16 bytes
+  walked : ℕ → ℕ → List ℕ → Question
 
 abbrev pub answer : Question → List ℕ
 answer (codes x) = offered x (1 ∷ 2 ∷ 3 ∷ 4 ∷ 5 ∷ 6 ∷ 7 ∷ [])
 answer (apart a b) = grid .distance a b ∷ []
-answer (summed l) = sum grid record { items = l; taken = 1; delivered = 0 } ∷ []
-answer (walked x l) = outcome (walk (walking 0 x) l)
-answer (sized width height depth) = depthUsed depth ∷ slotCount width height (depthUsed depth) ∷ tableSize width height (depthUsed depth) ∷ []
-answer (clears width height depth n) = cleared (replicate n 0) width height depth .answer ∷ []
-answer (placed width height depth slot) = placeNumbers width (layoutOf (headOf width height depth) .placeOf slot)
+answer (clears width height depth n) = told (made width height depth n)
+answer (placed slot) = placeNumbers 3 (placeIn (made 3 3 1 448 .bytes) slot)
 answer (byteOf slot) = take 1 (slotAt (offsets 0 448) slot)
+answer (summed source destination) = sumOf (start source destination)
+answer (walked source destination l) = deliveryOf (walk (start source destination) l)
 
 pub record Case : Type 0 where
   pub asked : Question
@@ -123,18 +148,20 @@ pub record Case : Type 0 where
 abbrev case : Question → List ℕ → Case
 case q a = record { asked = q; right = a }
 
+-- a delivery at (2,0) of the packet from (0,2), after so many moves and four hops
+abbrev after : ℕ → List ℕ
+after moves = moves ∷ node 2 0 ∷ 1 ∷ node 0 2 ∷ node 2 0 ∷ 4 ∷ 0 ∷ 0 ∷ 0 ∷ 0 ∷ payload
+
 -- document 01, "On both sides of the edge"
 abbrev pub table : List Case
 table =
-    case (sized 3 3 1) (1 ∷ 27 ∷ 448 ∷ [])
+    case (clears 3 3 1 448) (0 ∷ 1 ∷ 27 ∷ 448 ∷ [])
     ∷ case (clears 3 3 1 447) (9 ∷ [])
-    ∷ case (clears 3 3 1 448) (0 ∷ [])
-    ∷ case (sized 16 16 7) (7 ∷ 3840 ∷ 61456 ∷ [])
-    ∷ case (clears 16 16 8 0) (8 ∷ [])
-    ∷ case (sized 1 1 0) (5 ∷ 11 ∷ 192 ∷ [])
+    ∷ case (clears 16 16 7 61456) (0 ∷ 7 ∷ 3840 ∷ 61456 ∷ [])
+    ∷ case (clears 16 16 8 61456) (8 ∷ [])
+    ∷ case (clears 1 1 0 192) (0 ∷ 5 ∷ 11 ∷ 192 ∷ [])
     ∷ case (clears 1 1 0 191) (9 ∷ [])
-    ∷ case (clears 1 1 0 192) (0 ∷ [])
-    ∷ case (placed 3 3 1 20) (6 ∷ 0 ∷ 2 ∷ 2 ∷ [])
+    ∷ case (placed 20) (6 ∷ 0 ∷ 2 ∷ 2 ∷ [])
     ∷ case (byteOf 20) (320 ∷ [])
     ∷ case (codes (packetAt A 0 2 2 0)) (2 ∷ 5 ∷ [])
     ∷ case (codes (packetAt A 2 2 2 0)) (6 ∷ [])
@@ -143,7 +170,7 @@ table =
     ∷ case (codes (packetAt B 1 1 1 1)) (7 ∷ [])
     ∷ case (codes (packetAt B 2 2 0 0)) (3 ∷ 5 ∷ [])
     ∷ case (apart (node 0 2) (node 2 0)) (4 ∷ [])
-    ∷ case (summed (packetAt Waiting 0 2 2 0 ∷ [])) (7 ∷ [])
-    ∷ case (walked (packetAt Waiting 0 2 2 0) (1 ∷ 2 ∷ 2 ∷ 6 ∷ 5 ∷ 5 ∷ 7 ∷ [])) (7 ∷ 4 ∷ node 2 0 ∷ [])
-    ∷ case (walked (packetAt Waiting 0 2 2 0) (1 ∷ 5 ∷ 2 ∷ 5 ∷ 2 ∷ 7 ∷ [])) (6 ∷ 4 ∷ node 2 0 ∷ [])
+    ∷ case (summed (node 0 2) (node 2 0)) (7 ∷ [])
+    ∷ case (walked (node 0 2) (node 2 0) (1 ∷ 2 ∷ 2 ∷ 6 ∷ 5 ∷ 5 ∷ 7 ∷ [])) (after 7)
+    ∷ case (walked (node 0 2) (node 2 0) (1 ∷ 5 ∷ 2 ∷ 5 ∷ 2 ∷ 7 ∷ [])) (after 6)
     ∷ []
