@@ -54,7 +54,7 @@ pub record Proposal : Type 0 where
   pub code : ℕ
 
 -- number 0 is acceptance; a delivery is an accepted code 7, and its record, all 16 bytes, is in the answer
-abbrev pub answerBy : List ℕ → Proposal → Outcome Moved (List ℕ) → Answer (List ℕ)
+abbrev answerBy : List ℕ → Proposal → Outcome Moved (List ℕ) → Answer (List ℕ)
 answerBy s c o =
     cond (eqb (o .answer .number) 0)
     (cond (eqb (c .code) 7)
@@ -201,7 +201,7 @@ stays-in h t here Out u = absurd (u refl)
 stays-in h t here NotOffered u = refl
 
 -- code 7 leads nowhere but out
-seven-out : (p : Place) (d : ℕ) (lead : Lead) → ruled p d 7 ≡ lead → barred lead ≡ false → lead ≡ Out
+pub seven-out : (p : Place) (d : ℕ) (lead : Lead) → ruled p d 7 ≡ lead → barred lead ≡ false → lead ≡ Out
 unfolding ruled stepOf
 seven-out p d lead e f = go (offers Deliver (signsOf (p .node) d) (p .kind)) lead e f
   where
@@ -210,7 +210,7 @@ seven-out p d lead e f = go (offers Deliver (signsOf (p .node) d) (p .kind)) lea
     go false l e f = let g : barred NotOffered ≡ false = rw (← e) at f in clash cc
 
 -- slices whose table is that of h₀, but for the count of deliveries
-abbrev pub Fit : Head → List ℕ → Type 0
+abbrev Fit : Head → List ℕ → Type 0
 Fit h₀ s = (d : ℕ) × (trailerOf s ≡ Good (delivering h₀ d))
 
 module _ (h₀ : Head) (small : h₀ .taken < 2 ^ 32) where
@@ -227,7 +227,7 @@ module _ (h₀ : Head) (small : h₀ .taken < 2 ^ 32) where
           rw (← q, see-after (before s h (f .1) (c .slot) (c .code)) (r .table) g (r .head) (r .full)) (r .step),
         )
 
-    pub carries : answering s c ≡ moved u → Fit h₀ u × Carried (netOf h) (layoutOf h) (see s) (see u)
+    carries : answering s c ≡ moved u → Fit h₀ u × Carried (netOf h) (layoutOf h) (see s) (see u)
     carries e =
         let r = told-moved s c (movedInSlice s (c .slot) (c .code)) u e in
         let z = sym (number-is s h (f .1) (c .slot) (c .code)) ∙ r .0 in
@@ -236,7 +236,7 @@ module _ (h₀ : Head) (small : h₀ .taken < 2 ^ 32) where
         let w = seen-after h _ (carried-on s h (f .1) (c .slot) (c .code) z lead refl in-net) (r .2) in
         ((f .0, w .0), rw (see-good s h (f .1)) (w .1))
 
-    pub hands : (d : Delivery) → answering s c ≡ delivered u d → Fit h₀ u × HandedOut (netOf h) (layoutOf h) (see s) (see u) d
+    hands : (d : Delivery) → answering s c ≡ delivered u d → Fit h₀ u × HandedOut (netOf h) (layoutOf h) (see s) (see u) d
     hands d e =
         let o = movedInSlice s (c .slot) (c .code) in
         let r = told-delivered s c o u d e in

@@ -38,7 +38,7 @@ stands-after p t h e l small P = record {
 }
 
 -- as the slice's own words have it
-pub stands-in : (s : List ℕ) (h : Head) → Stands s h → Passing (netIn s) (contentsIn s)
+stands-in : (s : List ℕ) (h : Head) → Stands s h → Passing (netIn s) (contentsIn s)
 stands-in s h a = subst (λ (g : Head). Passing (netOf g) (contents (layoutOf g) (see s))) (sym (head-is s (a .head))) (a .passing)
 
 pub stands-checked : (s : List ℕ) (h : Head) → Stands s h → checkAnswer (checkedSlice s) .number ≡ 0

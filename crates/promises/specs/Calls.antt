@@ -45,16 +45,7 @@ module _ (R : Router) (s : List ℕ) where
   leftBy finds = R .find s .bytes
   leftBy (copies second) = R .copy-outward s second .bytes .slice
 
-  -- how many takings, moves and deliveries a call's answer tells of; a delivery is a move with code 7 answered 0
-  abbrev pub takingsBy : Call → ℕ
-  takingsBy (clears width height depth) = 0
-  takingsBy (takes source destination payload) = cond (eqb (R .take-in s source destination payload .answer .number) 0) 1 0
-  takingsBy (moves slot code) = 0
-  takingsBy (reads slot) = 0
-  takingsBy checks = 0
-  takingsBy finds = 0
-  takingsBy (copies second) = 0
-
+  -- the moves and the deliveries that a call's answer tells of; a delivery is a move with code 7 answered 0
   abbrev pub movesBy : Call → ℕ
   movesBy (clears width height depth) = 0
   movesBy (takes source destination payload) = 0
