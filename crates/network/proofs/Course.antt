@@ -34,6 +34,14 @@ module _ (N : Net) (taken delivered : ℕ) (x : Item) where
   unfolding good
   means-good g = search (and-both, lt-ltb, eq-eqb) depth 12
 
+-- in a waiting slot, the source is here; in a B slot, B may hold a packet here for that destination
+module _ {N : Net} {taken delivered : ℕ} {x : Item} (g : Good N taken delivered x) where
+  pub waits-at-source : x .place .kind ≡ Waiting → x .packet .source ≡ x .place .node
+  waits-at-source e = eqb-true _ _ (rw e at (g .fits))
+
+  pub settled-in-B : x .place .kind ≡ B → N .settled (x .place .node) (x .packet .destination) ≡ true
+  settled-in-B e = rw e at (g .fits)
+
 -- a hop of a packet on a shortest path keeps it on one, one farther from its source
 module _ (N : Net) (L : NetLaws N) (source h d : ℕ) (on : N .valid h ≡ true) (to : N .valid d ≡ true)
     (short : N .distance source h + N .distance h d ≡ N .distance source d) (k : Kind) (c n : ℕ) (e : N .rule (at h k) d c ≡ Hop n) where
@@ -58,7 +66,7 @@ module _ (N : Net) (L : NetLaws N) (taken delivered : ℕ) (x : Item) (g : Good 
   hopped-fits : (n : ℕ) (k : Kind) → k ≡ x .place .kind → offer N x code ≡ Hop n → fitsKind N k n (hopped x n .packet) ≡ true
   hopped-fits n Waiting w e = absurd (laws .hop-queued code n (rw w e))
   hopped-fits n A w e = refl
-  hopped-fits n B w e = laws .hop-settled code n (rw (← w) at (g .fits)) (rw w e)
+  hopped-fits n B w e = laws .hop-settled code n (settled-in-B g (sym w)) (rw w e)
 
   hopped-good : (n : ℕ) → offer N x code ≡ Hop n → Good N taken delivered (hopped x n)
   hopped-good n e =

@@ -17,6 +17,7 @@ use Rattle.network.specs.Packet.{Item, Good, offer}
 use Rattle.network.specs.Machine.{Vacant, Open, leaves, hops, turns}
 use Rattle.network.proofs.Lists.{all-mem, all-map, best}
 use Rattle.network.proofs.Tests.{clash}
+use Rattle.network.proofs.Course.{settled-in-B}
 
 -- a packet and a code for which the way is open
 pub record Ready (N : Net) (l : List Item) : Type 0 where
@@ -71,7 +72,7 @@ module _ (N : Net) (L : NetLaws N) (taken delivered : ℕ) (l : List Item) (good
 
     B-ready : x .place .kind ≡ B → All (λ y. y .place .kind ≡ B → N .level (x .place .node) ≤ N .level (y .place .node)) l → Ready N l
     B-ready e least =
-        let r = laws .B-goes (rw e at (fine .fits)) in
+        let r = laws .B-goes (settled-in-B fine e) in
         elim (r .1) [
           | inl o ↦ ready (r .0) (leaves (known-kind B (r .0) e o))
           | inr h ↦ ready (r .0) (hops (h .0) (known-kind B (r .0) e (h .1))

@@ -23,6 +23,7 @@ use Rattle.survey.specs.declared.copying.Copied.the-variants as copied
 use Rattle.survey.specs.Check.{CheckAnswer, checkAnswer, checkedBy, checkedSlice}
 use Rattle.survey.specs.Find.{FindAnswer, findAnswer, foundAfter, foundIn, foundBy, foundSlice}
 use Rattle.survey.specs.Copy.{CopyAnswer, copyAnswer, veiled, copiedAfter, copiedIn, copiedBy, copiedSlice}
+use Rattle.survey.proofs.CopyLaws.{refused-unwritten}
 use Rattle.promises.specs.Slices.{Bytes, headIn, tableIn, slotsIn}
 use Rattle.promises.specs.Conditions.{NothingHeld}
 use Rattle.promises.specs.Router.{Buffers}
@@ -150,19 +151,22 @@ module _ (s out : List ℕ) where
       ∙ ap (λ (n : ℕ). copyBy (eqb (length out) n)) (table-long s g)
 
   abbrev Said : Outcome Copied (List ℕ) → Type 0
-  Said o = Placed s (copyAnswer (o .answer) .number) (copyAnswer (o .answer) .place) × (o .bytes ≡ out)
+  Said o = Placed s (copyAnswer (o .answer) .number) (copyAnswer (o .answer) .place)
 
   copy-said : copyAnswer (copiedSlice s out .answer) .number ≢ 0 → Said (copiedSlice s out)
   copy-said u = go (checkedSlice s) refl
     where
       by : (b : Bool) → copyAnswer (copyBy b .answer) .number ≢ 0 → Said (copyBy b)
       by true u = absurd (u refl)
-      by false u = (unplaced s 9 (λ e. omega arith), refl)
+      by false u = unplaced s 9 (λ e. omega arith)
 
       go : (c : Checked) → checkedSlice s ≡ c → Said (copiedSlice s out)
       go checked.Passes e = rw (copied-passes e) (by (eqb (length out) (headIn s .size)) (rw (copied-passes e) at u))
-      go checked.BadTrailer e = rw (copied-bad e) (unplaced s 1 (λ u. omega arith), refl)
-      go (checked.FaultAt p) e = rw (copied-fault p e) (placed s p e, refl)
+      go checked.BadTrailer e = rw (copied-bad e) (unplaced s 1 (λ u. omega arith))
+      go (checked.FaultAt p) e = rw (copied-fault p e) (placed s p e)
+
+  copy-unwritten : copyAnswer (copiedSlice s out .answer) .number ≢ 0 → copiedSlice s out .bytes ≡ out
+  copy-unwritten u = refused-unwritten s out (λ e. u (ap (λ (c : Copied). copyAnswer c .number) e))
 
   length-first : checkedSlice s ≡ checked.Passes → First (ground 9 (length out ≢ headIn s .size) end) (copyAnswer (copiedSlice s out .answer) .number)
   length-first e = rw (copied-passes e) (go (eqb (length out) (headIn s .size)) refl)
@@ -183,6 +187,6 @@ module _ (s out : List ℕ) where
       (outcome (copyAnswer (o .answer)) record { slice = s; second = o .bytes })
   copy-refuses = record {
     exactly = exactly-first (copyGrounds s out) (copyAnswer (copiedSlice s out .answer) .number) copy-first;
-    told = λ u. copy-said u .0;
-    unchanged = λ u. ap (λ (w : List ℕ). record { slice = s; second = w }) (copy-said u .1);
+    told = copy-said;
+    unchanged = λ u. ap (λ (w : List ℕ). record { slice = s; second = w }) (copy-unwritten u);
   }

@@ -1,24 +1,33 @@
--- What an accepting berth says, and how long a new record is.
+-- That 7 comes before 6; what an accepting berth says; and what a new record says.
 -- Assumes nothing.
-use Prim.Native.Nat.{ℕ, _<_}
+use Prim.Native.Nat.{ℕ, _<_, _^_}
 use mathlib.Core.Path.{_≡_, sym, ap, _∙_}
 use mathlib.Core.Logic.{_≢_}
 use mathlib.Core.Bool.{true}
 use mathlib.Core.List.{List}
 use native.Mathlib.Omega.{arith}
-use borrow.Author.Tests.{eqb-false, not-false}
+use borrow.Author.Tests.{eqb-false, eq-eqb, not-false}
 use lib.ListN.{length}
+use lib.Seq.{take-all}
 use Rattle.network.specs.declared.Kind.the-variants.{Waiting}
 use Rattle.network.specs.Net.{at}
 use Rattle.slots.specs.Bytes.{bytes32}
+use Rattle.slots.proofs.Numbers.{digits}
 use Rattle.table.specs.declared.trailer.Head.{Head}
 use Rattle.table.specs.declared.queues.Room.the-variants.{At}
 use Rattle.table.specs.Trailer.{Sized}
 use Rattle.table.specs.Layout.{netOf, layoutOf}
+use Rattle.table.specs.Packets.{packetOf}
 use Rattle.table.specs.Queues.{roomAt}
 use Rattle.table.proofs.QueueLaws.{room-there, room-within}
 use Rattle.table.proofs.RefusalLaws.{passed, accepted-by}
 use Rattle.router.specs.TakeIn.{berthOf, newRecord}
+
+-- where all serials are given out the answer is 7, whatever the waiting slot holds
+pub all-given-out : (h : Head) (t : List ℕ) (source destination : ℕ) → netOf h .valid source ≡ true → netOf h .valid destination ≡ true
+    → h .taken ≡ 4294967295 → berthOf h t source destination ≡ record { number = 7; slot = 0 }
+unfolding berthOf
+all-given-out h t source destination on to e = rw (on, to, eq-eqb (h .taken) 4294967295 e)
 
 -- the packet is taken in
 pub record Accepts (h : Head) (t : List ℕ) (source destination : ℕ) : Type 0 where
@@ -44,6 +53,20 @@ module _ (h : Head) (t : List ℕ) (source destination : ℕ) (e : berthOf h t s
 
   pub berth-within : Sized h t → berthOf h t source destination .slot < layoutOf h .size
   berth-within z = room-within h (z .dims) t (at source Waiting) _ (accepts .source-on) (accepts .room)
+
+-- mark 1, the source, the destination, no hop made, the serial, and the payload, all eight bytes
+pub new-packet : (source destination serial : ℕ) (payload : List ℕ) → serial < 2 ^ 32 → length payload ≡ 8
+    → packetOf (newRecord source destination serial payload)
+    ≡ record { mark = 1; source = source; destination = destination; hops = 0; serial = serial; payload = payload }
+unfolding newRecord bytes32
+new-packet source destination serial payload l e = λ i. record {
+  mark = 1;
+  source = source;
+  destination = destination;
+  hops = 0;
+  serial = digits serial l i;
+  payload = take-all 8 payload (omega arith) i;
+}
 
 pub length-newRecord : (source destination serial : ℕ) (payload : List ℕ) → length payload ≡ 8
     → length (newRecord source destination serial payload) ≡ 16

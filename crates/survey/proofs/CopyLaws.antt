@@ -1,21 +1,73 @@
--- The outward copy slot by slot, and what it shows of a slot.
+-- The outward copy: where it is made, what it leaves where it is refused, what it shows of a slot, and how it is made slot by slot.
 -- Assumes nothing.
 use Prim.Native.Nat.{ℕ, zero, suc, _+_, _*_, _≤_, _<_}
 use mathlib.Core.Path.{_≡_, refl, sym, ap, _∙_}
-use mathlib.Core.Logic.{_⊎_, ⊎-elim}
+use mathlib.Core.Logic.{_≢_, _⊎_, ⊎-elim}
 use mathlib.Core.List.{List}
-use mathlib.Core.Bool.{true}
+use mathlib.Core.Bool.{Bool, true, false, cond}
 use native.Mathlib.Omega.{arith}
 use native.Mathlib.Decide.{ℕ-discrete}
+use lib.Dec.{eqb}
+use borrow.Author.Tests.{eqb-true}
 use lib.ListN.{length, getD, take, drop, replicate, length-append, length-take, length-drop}
 use lib.Seq.{take-all, length-take-le, take-at, drop-at}
+use Rattle.network.proofs.Tests.{clash}
 use Rattle.slots.specs.Bytes.{part}
 use Rattle.slots.specs.Slots.{slotAt, withSlot, emptySlot, zeros}
 use Rattle.slots.proofs.SlotLaws.{length-slotAt, length-withSlot, slotAt-same, slotAt-other, drop-next, slots-ext}
 use Rattle.slots.proofs.ZeroLaws.{zeros-emptySlot}
+use Rattle.table.specs.declared.trailer.Head.{Head}
+use Rattle.table.specs.declared.trailer.Headed.{Headed}
+use Rattle.table.specs.declared.trailer.Headed.the-variants.{Good, Bad}
+use Rattle.table.specs.Trailer.{trailerOf}
+use Rattle.table.specs.Layout.{layoutOf}
 use Rattle.table.specs.Packets.{fieldsOf}
 use Rattle.table.proofs.PacketLaws.{fields-same, mark-not-zero}
-use Rattle.survey.specs.Copy.{withoutPayload, veiled}
+use Rattle.router.specs.Outcome.{outcome}
+use Rattle.survey.specs.declared.checking.Checked.{Checked}
+use Rattle.survey.specs.declared.checking.Checked.the-variants.{Passes, BadTrailer, FaultAt}
+use Rattle.survey.specs.declared.copying.Copied.the-variants as copied
+use Rattle.survey.specs.Check.{checkedIn}
+use Rattle.survey.specs.Copy.{withoutPayload, veiled, copiedAfter, copiedIn, copiedBy, copiedSlice}
+
+-- ---- made: the second buffer has exactly the table's length
+
+pub copied-exactly : (h : Head) (t out : List ℕ) → copiedIn h t out .answer ≡ copied.Done → length out ≡ length t
+unfolding copiedIn
+copied-exactly h t out = by-check (checkedIn h t)
+  where
+    by-length : (m n : ℕ) (copy : List ℕ) → cond (eqb m n) (outcome copied.Done copy) (outcome copied.WrongLength out) .answer ≡ copied.Done → m ≡ n
+    by-length m n copy u = go (eqb m n) refl u
+      where
+        go : (b : Bool) → eqb m n ≡ b → cond b (outcome copied.Done copy) (outcome copied.WrongLength out) .answer ≡ copied.Done → m ≡ n
+        go true e u = eqb-true m n e
+        go false e u = clash cc
+
+    by-check : (c : Checked) → copiedAfter h t out c .answer ≡ copied.Done → length out ≡ length t
+    by-check Passes u = by-length _ _ (veiled (layoutOf h .size) t) u
+    by-check BadTrailer u = clash cc
+    by-check (FaultAt place) u = clash cc
+
+-- ---- refused: the second buffer is as it was
+
+pub refused-unwritten : (s out : List ℕ) → copiedSlice s out .answer ≢ copied.Done → copiedSlice s out .bytes ≡ out
+unfolding copiedSlice copiedIn
+refused-unwritten s out = on (trailerOf s)
+  where
+    by-length : (b : Bool) (copy : List ℕ)
+        → cond b (outcome copied.Done copy) (outcome copied.WrongLength out) .answer ≢ copied.Done
+        → cond b (outcome copied.Done copy) (outcome copied.WrongLength out) .bytes ≡ out
+    by-length true copy u = absurd (u refl)
+    by-length false copy u = refl
+
+    by-check : (h : Head) (t : List ℕ) (c : Checked) → copiedAfter h t out c .answer ≢ copied.Done → copiedAfter h t out c .bytes ≡ out
+    by-check h t Passes u = by-length (eqb (length out) (length t)) (veiled (layoutOf h .size) t) u
+    by-check h t BadTrailer u = refl
+    by-check h t (FaultAt place) u = refl
+
+    on : (x : Headed) → copiedBy s out x .answer ≢ copied.Done → copiedBy s out x .bytes ≡ out
+    on Bad u = refl
+    on (Good h) u = by-check h _ (checkedIn h _) u
 
 -- ---- a slot
 

@@ -62,19 +62,19 @@ module _ (flags : List ℕ) (full : length flags ≡ 512) (bytes : (i : ℕ) →
   unfolding raised
   raised-full = length-set flags (b / 8) _ ∙ full
 
-  pub raised-bytes : (i : ℕ) → getD (raised flags b) i 0 < 256
-  unfolding raised flagAt
-  raised-bytes i = elim (ℕ-discrete i (b / 8)) [
-    | yes e ↦ rw (e, raised-byte) (byte-fits _ (b % 8) (bytes (b / 8)) (omega arith) down)
-    | no e ↦ rw (getD-set-other flags (b / 8) i _ 0 e) (bytes i)
-  ]
-
   up-after : (a : ℕ) → a / 8 ≡ b / 8 → (bitOf (getD flags (a / 8) 0) (a % 8) || eqb (b % 8) (a % 8)) ≡ true → flagAt (raised flags b) a ≡ true
   unfolding flagAt
   up-after a e u = rw (e, raised-byte) (bit-after _ (b % 8) (bytes (b / 8)) (omega arith) down (a % 8) (omega arith) (rw e at u))
 
   pub raised-up : flagAt (raised flags b) b ≡ true
   raised-up = up-after b refl (rw (eq-eqb (b % 8) (b % 8) refl) (or-true (bitOf (getD flags (b / 8) 0) (b % 8))))
+
+  pub raised-bytes : (i : ℕ) → getD (raised flags b) i 0 < 256
+  unfolding raised flagAt
+  raised-bytes i = elim (ℕ-discrete i (b / 8)) [
+    | yes e ↦ rw (e, raised-byte) (byte-fits _ (b % 8) (bytes (b / 8)) (omega arith) down)
+    | no e ↦ rw (getD-set-other flags (b / 8) i _ 0 e) (bytes i)
+  ]
 
   pub raised-kept : (a : ℕ) → flagAt flags a ≡ true → flagAt (raised flags b) a ≡ true
   unfolding flagAt raised

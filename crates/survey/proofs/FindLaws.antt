@@ -1,4 +1,4 @@
--- Find's definitions: a turn of each loop, and what each answer means. Both searches are searches for the lowest number with a property.
+-- Find's definitions: code 1 is looked at, a turn of each loop, and what each answer means. Both searches are searches for the lowest number with a property.
 -- Assumes nothing.
 use Prim.Native.Nat.{ℕ, zero, suc, _+_, _-_, _<_}
 use mathlib.Core.Path.{_≡_, refl, sym, ap, _∙_}
@@ -7,7 +7,7 @@ use mathlib.Core.Bool.{Bool, true, false, cond}
 use native.Mathlib.Omega.{arith}
 use native.Mathlib.Numerals.{add-one}
 use lib.Dec.{eqb}
-use borrow.Author.Tests.{eqb-true, eqb-false, ne-eqb}
+use borrow.Author.Tests.{eqb-true, eqb-false, eq-eqb, ne-eqb}
 use Rattle.network.proofs.Tests.{clash}
 use Rattle.table.specs.declared.trailer.Head.{Head}
 use Rattle.router.specs.Move.{verdictOf}
@@ -20,6 +20,10 @@ use Rattle.survey.specs.declared.finding.Found.the-variants.{Move, Nothi
 use Rattle.survey.specs.Check.{firstOf, LowestWith}
 use Rattle.survey.specs.Find.{firstCode, orNext, firstMove, Acceptable, Stuck, Lowest}
 use Rattle.survey.proofs.CheckLaws.{first-lowest, first-none, none-first}
+
+-- a packet that can enter is found: code 1 is the only one that a waiting packet has
+pub entering-found : (h : Head) (t : List ℕ) (slot n : ℕ) → verdictOf h t slot 1 .number ≡ 0 → firstMove h t slot (suc n) ≡ Move slot 1
+entering-found h t slot n e = rw (eq-eqb (verdictOf h t slot 1 .number) 0 e)
 
 -- ---- a turn of each loop
 

@@ -20,13 +20,14 @@ pub length-hop : (v : List ℕ) (more : ℕ) → length (hop v more) ≡ length 
 length-hop v more = length-set v 3 (getD v 3 0 + more)
 
 module _ (t : List ℕ) (k : ℕ) (h : 16 * k + 16 ≤ length t) where
-  pub length-left : length (left t k) ≡ length t
-  unfolding left
-  length-left = length-withSlot t k h emptySlot refl
-
+  -- 16 zeros
   pub left-there : slotAt (left t k) k ≡ emptySlot
   unfolding left
   left-there = slotAt-same t k h emptySlot refl
+
+  pub length-left : length (left t k) ≡ length t
+  unfolding left
+  length-left = length-withSlot t k h emptySlot refl
 
   pub left-other : (j : ℕ) → j ≢ k → slotAt (left t k) j ≡ slotAt t j
   unfolding left

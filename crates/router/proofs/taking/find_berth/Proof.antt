@@ -6,17 +6,18 @@ use mathlib.Core.Logic.{_≢_}
 use mathlib.Core.Bool.{true, false}
 use mathlib.Core.List.{List}
 use borrow.Author.Needs.{needs}
-use borrow.Author.Tests.{eq-eqb, ne-eqb}
+use borrow.Author.Tests.{ne-eqb}
 use Rattle.network.specs.declared.Kind.the-variants.{Waiting}
 use Rattle.network.specs.Net.{at}
 use Rattle.network.proofs.Tests.{not-held, not-failed}
 use Rattle.table.specs.declared.trailer.Head.{Head}
 use Rattle.table.specs.declared.queues.Room.the-variants.{At, Full}
-use Rattle.table.specs.Refusals.{out-of-range, all-taken, no-room}
+use Rattle.table.specs.Refusals.{out-of-range, no-room}
 use Rattle.table.specs.Layout.{netOf}
 use Rattle.table.specs.Queues.{roomAt}
 use Rattle.router.specs.declared.taking.Berth.{Berth}
 use Rattle.router.specs.TakeIn.{berthOf}
+use Rattle.router.proofs.TakeLaws.{all-given-out}
 use Rattle.router.proofs.taking.find_berth.Statement.{statement}
 use Rattle.router.proofs.taking.find_berth.Tie as tie
 
@@ -34,10 +35,6 @@ module _ (h : Head) (t : List ℕ) (source destination : ℕ) where
     no-destination e = rw (on, e)
 
     module _ (to : netOf h .valid destination ≡ true) where
-      none-left : h .taken ≡ 4294967295 → berth all-taken 0 ≡ berthOf h t source destination
-      unfolding berthOf
-      none-left e = rw (on, to, eq-eqb (h .taken) 4294967295 e)
-
       module _ (more : h .taken ≢ 4294967295) where
         none-free : roomAt h t (at source Waiting) ≡ Full → berth no-room 0 ≡ berthOf h t source destination
         unfolding berthOf
@@ -70,7 +67,7 @@ returns-2 c = no-destination _ _ _ _ (source-on (c .before .before)) (not-held (
 returns-3 : tie.Need-returns-3
 returns-3 c =
     let d = c .before .before in
-    none-left _ _ _ _ (source-on (d .before .before)) (destination-on d) (c .if3 .taken)
+    sym (all-given-out _ _ _ _ (source-on (d .before .before)) (destination-on d) (c .if3 .taken))
 
 waiting-room-requires : tie.Need-waiting-room-requires
 waiting-room-requires c κs =
