@@ -3,3 +3,4 @@ pub mod Bounds
 pub mod OutputLaws
 pub mod Determined
 pub mod Example
+pub mod Secrecy

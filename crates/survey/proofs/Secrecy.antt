@@ -1,4 +1,5 @@
--- Document 01's secrecy: two slices that are alike, with equal second buffers before the call, give the same answer and copy.
+-- Document 01's secrecy: two slices that are alike, with equal second buffers before the call, give the same answer and copy. The full check
+-- answers them alike too.
 -- Assumes nothing.
 use Prim.Native.Nat.{ℕ, _+_, _-_, _*_}
 use mathlib.Core.Path.{_≡_, refl, sym, ap, _∙_}
@@ -18,11 +19,18 @@ use Rattle.table.specs.Layout.{layoutOf}
 use Rattle.table.proofs.TrailerLaws.{table-sized, trailer-good, trailer-same, trailer-before}
 use Rattle.survey.specs.declared.checking.Checked.{Checked}
 use Rattle.survey.specs.declared.checking.Checked.the-variants.{Passes, BadTrailer, FaultAt}
-use Rattle.survey.specs.Check.{checkedIn}
+use Rattle.survey.specs.Check.{checkedIn, checkedBy, checkedSlice}
 use Rattle.survey.specs.Copy.{veiled, copiedAfter, copiedIn, copiedBy, copiedSlice}
 use Rattle.survey.specs.Secrecy.{SameButPayloads, Alike, tables, neither}
 use Rattle.survey.proofs.CopyLaws.{veiled-slot, veiled-end}
 use Rattle.survey.proofs.Sight.{SeenSame, check-same}
+
+-- what is read of two slices that are alike: no head in either, or one head, and tables that differ in payloads alone
+pub data ReadAlike : List ℕ → List ℕ → Type 0 where
+  no-head : {s u : List ℕ} → trailerOf s ≡ Bad → trailerOf u ≡ Bad → ReadAlike s u
+  one-head : {s u : List ℕ} (h : Head) → trailerOf s ≡ Good h → trailerOf u ≡ Good h
+      → SameButPayloads (layoutOf h .size) (drop (length s - h .size) s) (drop (length u - h .size) u)
+      → ReadAlike s u
 
 -- the table of a slice that ends with it
 table-of : (p t : List ℕ) (m : ℕ) → m ≡ length t → drop (length (p ++ t) - m) (p ++ t) ≡ t
@@ -31,7 +39,7 @@ table-of p t m e =
     drop-at p t (length (p ++ t) - m) (omega arith)
 
 module _ {n : ℕ} {t w : List ℕ} (a : SameButPayloads n t w) where
-  seen : SeenSame n t w
+  pub seen : SeenSame n t w
   seen = record {
     held = λ k l. ⊎-elim (λ e. ap zeros e) (λ d. d .0 ∙ sym (d .1)) (a .slots k l);
     front = λ k l. ⊎-elim (λ e. ap (take 8) e) (λ d. d .2) (a .slots k l);
@@ -45,16 +53,6 @@ module _ {n : ℕ} {t w : List ℕ} (a : SameButPayloads n t w) where
       ∙ ap (λ (v : List ℕ). v ++ replicate 8 0) (seen .front k l)
       ∙ sym (veiled-slot n w k l (omega (arith, a .full-too))))
       (veiled-end n t (omega (arith, a .full)) ∙ a .trailer ∙ sym (veiled-end n w (omega (arith, a .full-too))))
-
-  -- the check's answer decides, and it is the same
-  same-in : (h : Head) → layoutOf h .size ≡ n → (out : List ℕ) → copiedIn h t out ≡ copiedIn h w out
-  unfolding copiedIn
-  same-in h e out = ap (copiedAfter h t out) (check-same h t w (rw e seen)) ∙ by (checkedIn h w)
-    where
-      by : (x : Checked) → copiedAfter h t out x ≡ copiedAfter h w out x
-      by Passes = rw (e, same-copy, a .full, a .full-too)
-      by BadTrailer = refl
-      by (FaultAt place) = refl
 
   ends : last16 t ≡ drop (16 * n) t
   ends = let at : length t - 16 ≡ 16 * n = omega (arith, a .full) in rw at
@@ -76,18 +74,49 @@ module _ {n : ℕ} {t w : List ℕ} (a : SameButPayloads n t w) where
         let d = ap (λ (z : List ℕ). le32 z 12) ends-too ∙ a .distance in
         trailer-before q w (omega (arith, a .full-too)) (omega (arith, a .full, a .full-too)) ∙ sym same-trailer
 
-    same-tables : (out : List ℕ) → copiedSlice (p ++ t) out ≡ copiedSlice (q ++ w) out
-    unfolding copiedSlice layoutOf
-    same-tables out = ap (copiedBy (p ++ t) out) first-trailer ∙ by (trailerOf t) refl ∙ sym (ap (copiedBy (q ++ w) out) second-trailer)
+    read-tables : ReadAlike (p ++ t) (q ++ w)
+    unfolding layoutOf
+    read-tables = by (trailerOf t) refl
       where
-        by : (x : Headed) → trailerOf t ≡ x → copiedBy (p ++ t) out x ≡ copiedBy (q ++ w) out x
-        by Bad e = refl
+        by : (x : Headed) → trailerOf t ≡ x → ReadAlike (p ++ t) (q ++ w)
+        by Bad e = no-head (first-trailer ∙ e) (second-trailer ∙ e)
         by (Good h) e =
             let l : h .size ≡ length t = ap (λ (x : Head). x .size) (trailer-good t e .read) ∙ ap (λ (z : List ℕ). le32 z 12) ends ∙ a .distance in
-            let m : layoutOf h .size ≡ n = omega (arith, a .full, table-sized t e (sym l) .full) in
-            rw (table-of p t (h .size) l, table-of q w (h .size) (l ∙ a .full ∙ sym (a .full-too))) (same-in h m out)
+            let m : n ≡ layoutOf h .size = omega (arith, a .full, table-sized t e (sym l) .full) in
+            let same : SameButPayloads (layoutOf h .size) t w = rw m at a in
+            one-head h (first-trailer ∙ e) (second-trailer ∙ e)
+            (rw (table-of p t (h .size) l, table-of q w (h .size) (l ∙ a .full ∙ sym (a .full-too))) same)
+
+pub read-alike : {s u : List ℕ} → Alike s u → ReadAlike s u
+read-alike (tables p q a) = read-tables a p q
+read-alike (neither e f) = no-head e f
+
+-- the check's answer decides, and it is the same
+module _ (h : Head) {t w : List ℕ} (a : SameButPayloads (layoutOf h .size) t w) where
+  same-check : checkedIn h t ≡ checkedIn h w
+  same-check = check-same h t w (seen a)
+
+  same-in : (out : List ℕ) → copiedIn h t out ≡ copiedIn h w out
+  unfolding copiedIn
+  same-in out = ap (copiedAfter h t out) same-check ∙ by (checkedIn h w)
+    where
+      by : (x : Checked) → copiedAfter h t out x ≡ copiedAfter h w out x
+      by Passes = rw (same-copy a, a .full, a .full-too)
+      by BadTrailer = refl
+      by (FaultAt place) = refl
+
+check-by : {s u : List ℕ} → ReadAlike s u → checkedSlice s ≡ checkedSlice u
+unfolding checkedSlice
+check-by (no-head {s} {u} e f) = ap (checkedBy s) e ∙ sym (ap (checkedBy u) f)
+check-by (one-head {s} {u} h e f a) = ap (checkedBy s) e ∙ same-check h a ∙ sym (ap (checkedBy u) f)
+
+pub check-secret : {s u : List ℕ} → Alike s u → checkedSlice s ≡ checkedSlice u
+check-secret a = check-by (read-alike a)
+
+copy-by : {s u : List ℕ} → ReadAlike s u → (out : List ℕ) → copiedSlice s out ≡ copiedSlice u out
+unfolding copiedSlice
+copy-by (no-head {s} {u} e f) out = ap (copiedBy s out) e ∙ sym (ap (copiedBy u out) f)
+copy-by (one-head {s} {u} h e f a) out = ap (copiedBy s out) e ∙ same-in h a out ∙ sym (ap (copiedBy u out) f)
 
 pub secret : {s u : List ℕ} → Alike s u → (out : List ℕ) → copiedSlice s out ≡ copiedSlice u out
-unfolding copiedSlice
-secret (tables p q a) out = same-tables a p q out
-secret (neither {s} {u} e f) out = ap (copiedBy s out) e ∙ sym (ap (copiedBy u out) f)
+secret a = copy-by (read-alike a)

@@ -39,7 +39,7 @@ first-same p q b (suc n) f =
     rw (f b (omega arith) (omega arith), first-same p q (suc b) n (λ j l g. f j (omega arith) (omega arith)))
 
 module _ {n : ℕ} {t w : List ℕ} (a : SeenSame n t w) where
-  fields-alike : (k : ℕ) → k < n → fieldsOf (slotAt t k) ≡ fieldsOf (slotAt w k)
+  pub fields-alike : (k : ℕ) → k < n → fieldsOf (slotAt t k) ≡ fieldsOf (slotAt w k)
   fields-alike k l = fields-same (slotAt t k) (slotAt w k) (a .front k l)
 
   serial-alike : (k : ℕ) → k < n → serialAt t k ≡ serialAt w k
@@ -63,7 +63,7 @@ module _ {n : ℕ} {t w : List ℕ} (a : SeenSame n t w) where
   repeats-alike : (k : ℕ) → k < n → repeatsAt t k ≡ repeatsAt w k
   repeats-alike k l = rw (a .held k l, serial-alike k l, has-alike (serialAt w k) k (omega arith))
 
-  count-alike : (m : ℕ) → m ≤ n → heldBelow t m ≡ heldBelow w m
+  pub count-alike : (m : ℕ) → m ≤ n → heldBelow t m ≡ heldBelow w m
   count-alike zero l = refl
   count-alike (suc m) l = rw (a .held m l, count-alike m (omega arith))
 
