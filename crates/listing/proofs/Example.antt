@@ -1,9 +1,10 @@
--- Document 01's example: its table is listed as it says, byte for byte; and the refusals are worded as it says.
+-- Document 01's example: its table is listed as it says, byte for byte; and the refusals are worded as it says. What is sent outward of it, of no
+-- bytes, and of the table with one payload byte in an empty slot.
 -- Assumes nothing.
 use Prim.Native.Nat.{ℕ}
 use mathlib.Core.Path.{_≡_, refl}
 use mathlib.Core.List.{List, [], _∷_, _++_}
-use lib.ListN.{replicate}
+use lib.ListN.{take, replicate}
 use Rattle.network.specs.Packet.{good}
 use Rattle.mesh.specs.Grid.{distanceOf}
 use Rattle.mesh.specs.Rule.{signsOf}
@@ -27,7 +28,8 @@ use Rattle.listing.specs.Lines.{
   lastLine,
   tableLines,
 }
-use Rattle.listing.specs.Output.{refusalLine, faultLine, listing}
+use Rattle.listing.specs.Output.{refusalLine, faultLine, listing, verdict}
+use Rattle.listing.specs.Outward.{copyAlone, wordsAlone, sentOf}
 
 -- a 2 by 1 grid of depth 1, one packet taken in from (0,0) to (1,0)
 abbrev packet : List ℕ
@@ -72,3 +74,29 @@ example = refl
 pub refusals : (refusalLine 9 ≡ text "refused 9\n") × ((refusalLine 1 ≡ text "refused 1\n") × (faultLine 27 ≡ text "refused 10 at 27\n"))
 unfolding refusalLine faultLine dec decFrom
 refusals = (refl, (refl, refl))
+
+pub outward-example : (sentOf (packet ++ replicate 80 0 ++ trailer) ≡ copyAlone (take 8 packet ++ replicate 88 0 ++ trailer))
+    × ((sentOf [] ≡ wordsAlone (text "refused 1\n"))
+    × (sentOf (packet ++ replicate 15 0 ++ (1 ∷ replicate 64 0) ++ trailer) ≡ wordsAlone (text "refused 10 at 1\n")))
+unfolding sentOf
+    verdict
+    refusalLine
+    faultLine
+    checkedSlice
+    checkedIn
+    firstSpoiled
+    firstRepeat
+    serialsOk
+    countsOk
+    goodAt
+    good
+    distanceOf
+    signsOf
+    trailerOf
+    headOk
+    dimsOk
+    layoutOf
+    slotAt
+    dec
+    decFrom
+outward-example = (refl, (refl, refl))

@@ -1,6 +1,7 @@
 pub mod RowLaws
 pub mod Bounds
 pub mod OutputLaws
+pub mod OutwardLaws
 pub mod Determined
-pub mod Example
 pub mod Secrecy
+pub mod Example

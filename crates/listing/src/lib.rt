@@ -5,10 +5,12 @@ ghost use lib.ListN.{length};
 ghost use Rattle.listing.specs.Output.{most, room};
 
 pub mod answering;
+pub mod sending;
 mod writing;
 
 pub use answering::check_line;
 pub use answering::list_table;
+pub use sending::send_outward;
 
 // Room for the longest input, and one byte more, which shows that an input is too long.
 pub fn input_room() -> [u8; answering::MOST + 1]

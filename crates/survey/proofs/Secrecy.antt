@@ -45,7 +45,7 @@ module _ {n : ℕ} {t w : List ℕ} (a : SameButPayloads n t w) where
     front = λ k l. ⊎-elim (λ e. ap (take 8) e) (λ d. d .2) (a .slots k l);
   }
 
-  same-copy : veiled n t ≡ veiled n w
+  pub same-copy : veiled n t ≡ veiled n w
   same-copy =
       slots-ext n (veiled n t) (veiled n w)
       (λ k l.
