@@ -1,5 +1,6 @@
 /*
- * A repair counter's use of Paneglove: clear a 4 by 4 board, take packets in, show the table to outsiders, follow find until nothing is held.
+ * A repair counter's use of Paneglove: clear a 4 by 4 board, take packets in, list the table, show it to outsiders, follow find until nothing is
+ * held, and list it again.
  * It prints each answer and exits 1 if anything is not as promised.
  *
  *     rt staticlib paneglove
@@ -38,6 +39,7 @@ static const struct trip trips[] = {
 static uint8_t slice[LENGTH];
 static uint8_t earlier[LENGTH];
 static uint8_t out[TABLE];
+static uint8_t text[PANEGLOVE_LISTING_ROOM];
 static int broken;
 
 static void expect(int holds, const char *promise) {
@@ -55,14 +57,18 @@ static int unchanged(void) {
     return memcmp(earlier, slice, LENGTH) == 0;
 }
 
-static int all_zero(const uint8_t *bytes, size_t length) {
+static int all_are(uint8_t byte, const uint8_t *bytes, size_t length) {
     size_t i;
     for (i = 0; i < length; i++) {
-        if (bytes[i] != 0) {
+        if (bytes[i] != byte) {
             return 0;
         }
     }
     return 1;
+}
+
+static int all_zero(const uint8_t *bytes, size_t length) {
+    return all_are(0, bytes, length);
 }
 
 static unsigned distance(uint8_t a, uint8_t b) {
@@ -111,6 +117,35 @@ static void read_payloads(void) {
     expect(a.number == PANEGLOVE_OUT_OF_RANGE && all_zero(a.payload, 8), "there is no slot past the last");
 }
 
+static size_t lines_in(const uint8_t *bytes, size_t length) {
+    size_t i, lines = 0;
+    for (i = 0; i < length; i++) {
+        lines += bytes[i] == '\n';
+    }
+    return lines;
+}
+
+static paneglove_listed list(size_t room) {
+    paneglove_listed a = paneglove_list(slice, LENGTH, text, room);
+    printf("list: %" PRIu32 ", %lu bytes\n%.*s", a.number, (unsigned long)a.length, (int)a.length, (const char *)text);
+    return a;
+}
+
+static void list_table(const char *head, size_t held) {
+    paneglove_listed a;
+    memset(text, 170, sizeof text);
+    remember();
+    a = list(sizeof text - 1);
+    expect(a.number == PANEGLOVE_BUFFER && a.length == 0, "a listing needs all of its room");
+    expect(all_are(170, text, sizeof text), "a refused listing writes nothing");
+    a = list(sizeof text);
+    expect(a.number == PANEGLOVE_ACCEPTED && a.length <= sizeof text, "with its room a listing is written");
+    expect(memcmp(text, head, strlen(head)) == 0, "the head line tells the board and its counts");
+    expect(lines_in(text, a.length) == held + 2, "there is one line for each packet held, with one before and one after them");
+    expect(all_are(170, text + a.length, sizeof text - a.length), "nothing is written past a listing");
+    expect(unchanged(), "a listing changes nothing of the table");
+}
+
 static paneglove_copied copy_outward(size_t out_length) {
     paneglove_copied a = paneglove_copy_outward(slice, LENGTH, out, out_length);
     printf("copy outward: %" PRIu32 ", place %" PRIu32 "\n", a.number, a.place);
@@ -123,9 +158,7 @@ static void show_outsiders(void) {
     memset(out, 170, TABLE);
     remember();
     expect(copy_outward(TABLE - 1).number == PANEGLOVE_BUFFER, "the second buffer has exactly the table's length");
-    for (i = 0; i < TABLE; i++) {
-        expect(out[i] == 170, "a refused copy writes nothing");
-    }
+    expect(all_are(170, out, TABLE), "a refused copy writes nothing");
     expect(copy_outward(TABLE).number == PANEGLOVE_ACCEPTED, "a table that passes is copied");
     for (i = 0; i < SLOTS; i++) {
         expect(memcmp(out + 16 * i, table + 16 * i, 8) == 0, "all but payloads is shown");
@@ -215,9 +248,11 @@ int main(void) {
     take_in_all();
     expect(check(slice, LENGTH) == PANEGLOVE_ACCEPTED, "the table passes the full check");
     read_payloads();
+    list_table("grid 4 4 depth 2 taken 5 delivered 0\n", TRIPS);
     show_outsiders();
     refuse_moves();
     follow_find();
+    list_table("grid 4 4 depth 2 taken 5 delivered 5\n", 0);
     expect(check(slice, LENGTH) == PANEGLOVE_ACCEPTED, "the table still passes");
     expect(check(NULL, 0) == PANEGLOVE_TRAILER, "no bytes have no trailer");
     expect(all_zero(slice + BEFORE, 16 * SLOTS), "a slot left by a packet is 16 zeros");
