@@ -1,15 +1,15 @@
 //! Scripts from consecutive seeds, run on both sides until enough calls have been compared.
 
+use crate::calls::Calls;
 use crate::difference::{first_difference, Difference};
 use crate::make;
 use crate::other_side::OtherSide;
 use crate::second;
-use crate::seven_calls::SevenCalls;
 use crate::tally::Tally;
 use std::io;
 
 pub struct Campaign<'a> {
-    pub router: &'a dyn SevenCalls,
+    pub router: &'a dyn Calls,
     pub other: &'a OtherSide,
     pub first_seed: u64,
     pub calls: u64,
@@ -74,10 +74,10 @@ impl Campaign<'_> {
 #[cfg(test)]
 mod tests {
     use super::*;
+    use crate::calls::SecondRouter;
     use crate::mistakes::MISTAKES;
-    use crate::seven_calls::SecondRouter;
 
-    fn against_itself(router: &dyn SevenCalls, calls: u64) -> (Progress, End) {
+    fn against_itself(router: &dyn Calls, calls: u64) -> (Progress, End) {
         let campaign = Campaign {
             router,
             other: &OtherSide::Own,
@@ -93,12 +93,13 @@ mod tests {
         assert!(matches!(end, End::Same));
         assert!(progress.tally.calls() >= 30_000);
         assert_eq!(progress.tally.untested(), Vec::<String>::new());
+        assert_eq!(progress.tally.unlisted(), Vec::<String>::new());
     }
 
     #[test]
     fn every_mistake_is_found() {
         for (name, router) in MISTAKES {
-            let (_, end) = against_itself(router, 60_000);
+            let (_, end) = against_itself(*router, 60_000);
             assert!(matches!(end, End::Different { .. }), "{name} not found");
         }
     }

@@ -12,6 +12,7 @@
 )]
 
 mod answer;
+mod calls;
 mod campaign;
 mod difference;
 mod make;
@@ -20,12 +21,11 @@ mod other_side;
 mod router;
 mod script;
 mod second;
-mod seven_calls;
 mod tally;
 mod usage;
 
+use calls::SecondRouter;
 use campaign::{Campaign, End, Progress};
-use seven_calls::SecondRouter;
 use std::io::{self, Read, Write};
 use std::path::Path;
 use std::process::ExitCode;
@@ -105,8 +105,12 @@ fn report(settings: &Settings, progress: &Progress) -> ExitCode {
     for what in &untested {
         println!("untested: {what}");
     }
+    let unlisted = progress.tally.unlisted();
+    for what in &unlisted {
+        println!("not in document 01: {what}");
+    }
     println!("differences 0");
-    match untested.is_empty() {
+    match untested.is_empty() && unlisted.is_empty() {
         true => ExitCode::SUCCESS,
         false => ExitCode::from(FAILURE),
     }

@@ -1,29 +1,36 @@
 //! The other side of the comparison: a program run once a script, or the second router itself.
 
+use crate::calls::SecondRouter;
 use crate::second;
-use crate::seven_calls::SecondRouter;
 use std::io::{Error, ErrorKind, Read, Result, Write};
-use std::path::{Path, PathBuf};
+use std::path::PathBuf;
 use std::process::{Child, Command, Stdio};
 use std::thread;
 
 pub enum OtherSide {
-    Runner(PathBuf),
+    Runner(Runner),
     Own,
+}
+
+/// A program and the words that it is started with.
+pub struct Runner {
+    pub program: PathBuf,
+    pub words: Vec<String>,
 }
 
 impl OtherSide {
     pub fn output(&self, script: &[u8]) -> Result<Vec<u8>> {
         match self {
-            OtherSide::Runner(path) => run(path, script),
+            OtherSide::Runner(runner) => run(runner, script),
             OtherSide::Own => Ok(second::output(&second::run(script, &SecondRouter))),
         }
     }
 }
 
 /// The exit status isn't looked at (docs/REPLAY.md names none) unless a signal ended the program.
-fn run(path: &Path, script: &[u8]) -> Result<Vec<u8>> {
-    let mut child = Command::new(path)
+fn run(runner: &Runner, script: &[u8]) -> Result<Vec<u8>> {
+    let mut child = Command::new(&runner.program)
+        .args(&runner.words)
         .stdin(Stdio::piped())
         .stdout(Stdio::piped())
         .spawn()?;

@@ -40,6 +40,22 @@ pub enum Command {
 }
 
 impl Command {
+    /// The others lend, set and show bytes.
+    pub fn is_call(&self) -> bool {
+        match self {
+            Command::Lend { .. } | Command::Set { .. } | Command::Show | Command::ShowSecond => {
+                false
+            }
+            Command::Clear { .. }
+            | Command::TakeIn { .. }
+            | Command::Move { .. }
+            | Command::Payload { .. }
+            | Command::Check
+            | Command::Find
+            | Command::Copy { .. } => true,
+        }
+    }
+
     pub fn letter(&self) -> u8 {
         match self {
             Command::Lend { .. } => b'L',

@@ -1,9 +1,9 @@
 //! Runs a script on the second router and writes the lines that docs/REPLAY.md asks for.
 
 use crate::answer::Answer;
+use crate::calls::Calls;
 use crate::router::Refusal;
 use crate::script::{Command, LENGTH_MOST, SCRIPT_MOST};
-use crate::seven_calls::SevenCalls;
 
 /// The slice and the second buffer that a script's commands work on.
 #[derive(Default)]
@@ -29,7 +29,7 @@ pub struct Given {
 
 impl Memory {
     /// Nothing, and nothing carried out, for a length or a place that makes the script malformed.
-    pub fn carry_out(&mut self, router: &dyn SevenCalls, command: Command) -> Option<Answer> {
+    pub fn carry_out(&mut self, router: &dyn Calls, command: Command) -> Option<Answer> {
         let slice = &mut self.slice;
         let answer = match command {
             Command::Lend { length } => {
@@ -70,7 +70,7 @@ fn buffer(length: u32, fill: u8) -> Option<Vec<u8>> {
     accepted.then(|| vec![fill; usize::try_from(length).unwrap_or_default()])
 }
 
-pub fn run(script: &[u8], router: &dyn SevenCalls) -> Vec<Line> {
+pub fn run(script: &[u8], router: &dyn Calls) -> Vec<Line> {
     let mut lines = Vec::new();
     if script.len() > SCRIPT_MOST {
         lines.push(malformed(0, script.first().copied(), SCRIPT_MOST));
@@ -125,7 +125,7 @@ pub fn output(lines: &[Line]) -> Vec<u8> {
 #[cfg(test)]
 mod tests {
     use super::*;
-    use crate::seven_calls::SecondRouter;
+    use crate::calls::SecondRouter;
 
     fn texts(script: &[u8]) -> Vec<String> {
         let lines = run(script, &SecondRouter);

@@ -1,103 +1,96 @@
-//! How often each call gave each number, and what was never given.
+//! How often each call gave each number, what was never given, and what never should have been.
 
-use crate::router::{CheckFault, Refusal};
+use crate::router::{CheckFault, Refusal, CODES};
 use crate::script::Command;
 use crate::second::Given;
+use std::collections::BTreeMap;
 use std::fmt::Write;
+use std::ops::RangeInclusive;
 
-const NUMBERS: usize = 12;
-
-/// The calls, and the numbers that document 01 lets each of them give.
-const CALLS: [(&str, &[usize]); 7] = [
-    ("clear", &[0, 8, 9]),
-    ("take in", &[0, 1, 2, 6, 7]),
-    ("move", &[0, 1, 2, 3, 4, 5, 6]),
-    ("payload", &[0, 1, 2, 3, 4]),
-    ("check", &[0, 1, 10]),
-    ("find", &[0, 1, 10, 11]),
-    ("copy", &[0, 1, 9, 10]),
+/// The calls by their letters in a script, and the numbers that document 01 lets each of them give.
+const CALLS: &[(u8, &str, &[u32])] = &[
+    (b'C', "clear", &[0, 8, 9]),
+    (b'T', "take in", &[0, 1, 2, 6, 7]),
+    (b'M', "move", &[0, 1, 2, 3, 4, 5, 6]),
+    (b'P', "payload", &[0, 1, 2, 3, 4]),
+    (b'F', "check", &[0, 1, 10]),
+    (b'N', "find", &[0, 1, 10, 11]),
+    (b'O', "copy", &[0, 1, 9, 10]),
 ];
 
 const FAULTS: [&str; 3] = ["spoiled slot", "serial twice", "counts disagree"];
 
 #[derive(Default)]
 pub struct Tally {
-    numbers: [[u64; NUMBERS]; CALLS.len()],
-    accepted_codes: [u64; 7],
+    /// By the call's letter and the number given.
+    numbers: BTreeMap<(u8, u32), u64>,
+    accepted_codes: BTreeMap<u32, u64>,
     faults: [u64; FAULTS.len()],
 }
 
-fn call_of(command: &Command) -> Option<usize> {
-    match command {
-        Command::Clear { .. } => Some(0),
-        Command::TakeIn { .. } => Some(1),
-        Command::Move { .. } => Some(2),
-        Command::Payload { .. } => Some(3),
-        Command::Check => Some(4),
-        Command::Find => Some(5),
-        Command::Copy { .. } => Some(6),
-        Command::Lend { .. } | Command::Set { .. } | Command::Show | Command::ShowSecond => None,
-    }
-}
-
-fn index(number: u32) -> usize {
-    usize::try_from(number).unwrap_or(usize::MAX)
-}
-
-fn count_one(counts: &mut [u64], place: usize) {
-    if let Some(count) = counts.get_mut(place) {
-        *count += 1;
-    }
+fn may_give(letter: u8, number: u32) -> bool {
+    let mut rows = CALLS.iter();
+    rows.any(|(call, _, can_give)| *call == letter && can_give.contains(&number))
 }
 
 impl Tally {
     pub fn add(&mut self, given: &Given) {
-        let Some(call) = call_of(&given.command) else {
+        if !given.command.is_call() {
             return;
-        };
-        let number = given.refusal.map_or(0, Refusal::number);
-        if let Some(row) = self.numbers.get_mut(call) {
-            count_one(row, index(number));
         }
+        let number = given.refusal.map_or(0, Refusal::number);
+        let row = self.numbers.entry((given.command.letter(), number));
+        *row.or_default() += 1;
         match (given.command, given.refusal) {
             (Command::Move { code, .. }, None) => {
-                count_one(&mut self.accepted_codes, index(code.wrapping_sub(1)));
+                *self.accepted_codes.entry(code).or_default() += 1;
             }
-            (_, Some(Refusal::CheckFailed(fault))) => {
-                let fault = match fault {
-                    CheckFault::Spoiled(_) => 0,
-                    CheckFault::SerialTwice(_) => 1,
-                    CheckFault::CountsDisagree(_) => 2,
-                };
-                count_one(&mut self.faults, fault);
-            }
+            (_, Some(Refusal::CheckFailed(fault))) => self.add_fault(fault),
             _ => {}
         }
     }
 
-    pub fn calls(&self) -> u64 {
-        self.numbers.iter().flatten().sum()
+    fn add_fault(&mut self, fault: CheckFault) {
+        let [spoiled, twice, disagree] = &mut self.faults;
+        *match fault {
+            CheckFault::Spoiled(_) => spoiled,
+            CheckFault::SerialTwice(_) => twice,
+            CheckFault::CountsDisagree(_) => disagree,
+        } += 1;
     }
 
-    fn rows(&self) -> impl Iterator<Item = (&'static str, &'static [usize], &[u64; NUMBERS])> {
-        let rows = CALLS.into_iter().zip(&self.numbers);
-        rows.map(|((name, can_give), counts)| (name, can_give, counts))
+    pub fn calls(&self) -> u64 {
+        self.numbers.values().sum()
+    }
+
+    fn count(&self, letter: u8, number: u32) -> u64 {
+        let count = self.numbers.get(&(letter, number));
+        count.copied().unwrap_or_default()
+    }
+
+    fn accepted(&self, code: u32) -> u64 {
+        self.accepted_codes.get(&code).copied().unwrap_or_default()
+    }
+
+    /// Every number that a call can give, or gave.
+    fn columns(&self) -> RangeInclusive<u32> {
+        let listed = CALLS.iter().flat_map(|(_, _, can_give)| can_give.iter());
+        let given = self.numbers.keys().map(|(_, number)| number);
+        0..=listed.chain(given).max().copied().unwrap_or_default()
     }
 
     /// What a call can give and never gave in this run; nothing in it means none untested.
     pub fn untested(&self) -> Vec<String> {
         let mut untested = Vec::new();
-        for (name, can_give, counts) in self.rows() {
-            for number in can_give {
-                if counts.get(*number) == Some(&0) {
+        for (letter, name, can_give) in CALLS {
+            for number in *can_give {
+                if self.count(*letter, *number) == 0 {
                     untested.push(format!("{name} never answered {number}"));
                 }
             }
         }
-        for (code, count) in (1..).zip(self.accepted_codes) {
-            if count == 0 {
-                untested.push(format!("no move of code {code} was accepted"));
-            }
+        for code in CODES.filter(|code| self.accepted(*code) == 0) {
+            untested.push(format!("no move of code {code} was accepted"));
         }
         for (fault, count) in FAULTS.iter().zip(self.faults) {
             if count == 0 {
@@ -107,28 +100,47 @@ impl Tally {
         untested
     }
 
+    /// What was given, by both sides alike, and document 01 gives to no such call.
+    pub fn unlisted(&self) -> Vec<String> {
+        let numbers = self.numbers.keys().copied();
+        let numbers = numbers.filter(|(letter, number)| !may_give(*letter, *number));
+        let numbers =
+            numbers.map(|(letter, number)| format!("{} was answered {number}", char::from(letter)));
+        let codes = self.accepted_codes.keys();
+        let codes = codes.filter(|code| !CODES.contains(code));
+        let codes = codes.map(|code| format!("a move of code {code} was accepted"));
+        numbers.chain(codes).collect()
+    }
+
     pub fn table(&self) -> String {
         let mut text = format!("{:8}{:>9}", "call", "calls");
-        for number in 0..NUMBERS {
+        for number in self.columns() {
             let _ = write!(text, "{number:>8}");
         }
-        for (name, can_give, counts) in self.rows() {
-            let _ = write!(text, "\n{name:8}{:>9}", counts.iter().sum::<u64>());
-            for (number, count) in counts.iter().enumerate() {
-                match can_give.contains(&number) || *count > 0 {
-                    true => drop(write!(text, "{count:>8}")),
-                    false => drop(write!(text, "{:>8}", ".")),
-                }
-            }
+        for (letter, name, _) in CALLS {
+            self.write_row(&mut text, *letter, name);
         }
-        let _ = write!(text, "\nmoves accepted by code 1 to 7:");
-        for count in self.accepted_codes {
-            let _ = write!(text, " {count}");
+        let (first, last) = (CODES.start(), CODES.end());
+        let _ = write!(text, "\nmoves accepted by code {first} to {last}:");
+        for code in CODES {
+            let _ = write!(text, " {}", self.accepted(code));
         }
         for (fault, count) in FAULTS.iter().zip(self.faults) {
             let _ = write!(text, "\n10 given for {fault}: {count}");
         }
         text
+    }
+
+    fn write_row(&self, text: &mut String, letter: u8, name: &str) {
+        let numbers = self.columns().map(|number| self.count(letter, number));
+        let _ = write!(text, "\n{name:8}{:>9}", numbers.sum::<u64>());
+        for number in self.columns() {
+            let count = self.count(letter, number);
+            match may_give(letter, number) || count > 0 {
+                true => drop(write!(text, "{count:>8}")),
+                false => drop(write!(text, "{:>8}", ".")),
+            }
+        }
     }
 }
 
@@ -147,20 +159,48 @@ mod tests {
         tally.add(&given(Command::Move { slot: 0, code: 7 }, None));
         tally.add(&given(Command::Show, None));
         assert_eq!(tally.calls(), 2);
-        assert_eq!(tally.numbers[5][11], 1);
-        assert_eq!(tally.accepted_codes, [0, 0, 0, 0, 0, 0, 1]);
+        assert_eq!((tally.count(b'N', 11), tally.count(b'M', 0)), (1, 1));
+        assert_eq!((tally.accepted(6), tally.accepted(7)), (0, 1));
+        assert_eq!(tally.unlisted(), Vec::<String>::new());
     }
 
     #[test]
     fn what_was_never_given_is_named() {
         let mut tally = Tally::default();
         let before = tally.untested();
-        assert_eq!(before.len(), 3 + 5 + 7 + 5 + 3 + 4 + 4 + 7 + 3);
+        let numbers: usize = CALLS.iter().map(|(_, _, can_give)| can_give.len()).sum();
+        assert_eq!(before.len(), numbers + CODES.count() + FAULTS.len());
         assert!(before.contains(&"take in never answered 7".to_string()));
         let fault = Refusal::CheckFailed(CheckFault::SerialTwice(1));
         tally.add(&given(Command::Check, Some(fault)));
         let after = tally.untested();
         assert_eq!(after.len(), before.len() - 2);
         assert!(!after.contains(&"check never answered 10".to_string()));
+    }
+
+    #[test]
+    fn what_no_call_may_give_is_named() {
+        let mut tally = Tally::default();
+        tally.add(&given(Command::Find, Some(Refusal::WrongLength)));
+        tally.add(&given(Command::Move { slot: 0, code: 8 }, None));
+        let named = ["N was answered 9", "a move of code 8 was accepted"];
+        assert_eq!(tally.unlisted(), named);
+    }
+
+    #[test]
+    fn the_table_has_a_row_a_call_and_a_column_a_number() {
+        let tally = Tally::default();
+        let table = tally.table();
+        assert_eq!(table.lines().count(), 1 + CALLS.len() + 1 + FAULTS.len());
+        let words = |start: &str| -> Vec<String> {
+            let row = table.lines().find(|line| line.starts_with(start));
+            let words = row.unwrap_or_default().split_whitespace();
+            words.skip(2).map(str::to_string).collect()
+        };
+        let numbers: Vec<String> = tally.columns().map(|number| number.to_string()).collect();
+        assert_eq!(words("call"), numbers);
+        let find = words("find");
+        assert_eq!(find.len(), numbers.len());
+        assert_eq!((find[9].as_str(), find[10].as_str()), (".", "0"));
     }
 }

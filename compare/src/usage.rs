@@ -1,18 +1,19 @@
 //! The command line.
 
+use crate::calls::{Calls, SecondRouter};
 use crate::mistakes;
-use crate::other_side::OtherSide;
-use crate::seven_calls::{SecondRouter, SevenCalls};
+use crate::other_side::{OtherSide, Runner};
 use std::path::PathBuf;
 
 pub const USAGE: &str = "\
-usage: compare RUNNER [--calls N] [--seed N] [--scripts DIR]
-       compare --self [--calls N] [--seed N] [--scripts DIR]
+usage: compare [--calls N] [--seed N] [--scripts DIR] RUNNER [WORD...]
+       compare [--calls N] [--seed N] [--scripts DIR] --self
        compare --second
 
-RUNNER runs a script from standard input (docs/REPLAY.md); --self puts the second router in its
-place. --calls: how many calls to compare at the least (200000). --seed: the first seed (1).
---scripts: where the script of a difference is written (here).
+RUNNER, started with the words after it, runs a script from standard input (docs/REPLAY.md);
+--self puts the second router in its place. --calls: how many calls to compare at the least
+(200000). --seed: the first seed (1). --scripts: where the script of a difference is written
+(here).
 --second runs one script from standard input on the second router and prints its lines.";
 
 const CALLS: u64 = 200_000;
@@ -26,7 +27,7 @@ pub enum Task {
 pub struct Settings {
     pub other: OtherSide,
     /// The second router, or with `--fault NAME` one that makes a mistake on purpose.
-    pub router: &'static dyn SevenCalls,
+    pub router: &'static dyn Calls,
     pub calls: u64,
     pub first_seed: u64,
     pub scripts: PathBuf,
@@ -34,31 +35,40 @@ pub struct Settings {
 
 /// Nothing for bad usage.
 pub fn task(arguments: &[String]) -> Option<Task> {
-    if let [only] = arguments {
-        if only == "--second" {
-            return Some(Task::Second);
-        }
+    if arguments == ["--second"] {
+        return Some(Task::Second);
     }
-    let (first, mut rest) = arguments.split_first()?;
-    let other = match first.as_str() {
-        "--self" => OtherSide::Own,
-        option if option.starts_with("--") => return None,
-        path => OtherSide::Runner(PathBuf::from(path)),
-    };
     let mut settings = Settings {
-        other,
+        other: OtherSide::Own,
         router: &SecondRouter,
         calls: CALLS,
         first_seed: FIRST_SEED,
         scripts: PathBuf::from("."),
     };
+    let mut rest = arguments;
     while let [option, value, after @ ..] = rest {
-        set(&mut settings, option, value)?;
+        if set(&mut settings, option, value).is_none() {
+            break;
+        }
         rest = after;
     }
-    rest.is_empty().then_some(Task::Compare(settings))
+    settings.other = other_side(rest)?;
+    Some(Task::Compare(settings))
 }
 
+fn other_side(arguments: &[String]) -> Option<OtherSide> {
+    let (first, words) = arguments.split_first()?;
+    match first.as_str() {
+        "--self" if words.is_empty() => Some(OtherSide::Own),
+        option if option.starts_with("--") => None,
+        program => Some(OtherSide::Runner(Runner {
+            program: PathBuf::from(program),
+            words: words.to_vec(),
+        })),
+    }
+}
+
+/// Nothing, and nothing set, for what is no option or has no such value.
 fn set(settings: &mut Settings, option: &str, value: &str) -> Option<()> {
     match option {
         "--calls" => settings.calls = value.parse().ok()?,
@@ -79,17 +89,32 @@ mod tests {
         task(&arguments)
     }
 
+    fn compared(line: &str) -> Settings {
+        match parsed(line) {
+            Some(Task::Compare(settings)) => settings,
+            _ => panic!("{line} is not accepted"),
+        }
+    }
+
     #[test]
     fn options_are_read() {
-        let line = "path/replay --seed 7 --calls 9 --scripts there";
-        let Some(Task::Compare(settings)) = parsed(line) else {
-            panic!("not accepted");
-        };
-        assert!(matches!(settings.other, OtherSide::Runner(path) if path.ends_with("replay")));
+        let settings = compared("--seed 7 --calls 9 --scripts there path/replay");
         assert_eq!((settings.first_seed, settings.calls), (7, 9));
         assert_eq!(settings.scripts, PathBuf::from("there"));
         assert!(matches!(parsed("--second"), Some(Task::Second)));
-        assert!(parsed("--self --fault highest-slot").is_some());
+        let settings = compared("--fault highest-slot --self");
+        assert!(matches!(settings.other, OtherSide::Own));
+    }
+
+    #[test]
+    fn the_runner_has_the_words_after_it() {
+        let settings = compared("--calls 9 path/replay --seed 7 --self");
+        let OtherSide::Runner(Runner { program, words }) = settings.other else {
+            panic!("no runner");
+        };
+        assert_eq!(program, PathBuf::from("path/replay"));
+        assert_eq!(words, ["--seed", "7", "--self"]);
+        assert_eq!((settings.first_seed, settings.calls), (FIRST_SEED, 9));
     }
 
     #[test]
@@ -97,12 +122,13 @@ mod tests {
         for line in [
             "",
             "--calls 3",
-            "replay --calls",
-            "replay --calls -1",
-            "replay --calls many",
-            "replay other",
-            "replay --fault unknown",
+            "--calls",
+            "--calls -1 replay",
+            "--calls many replay",
+            "--fault unknown replay",
+            "--self --calls 3",
             "--second --calls 3",
+            "--calls 3 --second",
             "--unknown",
         ] {
             assert!(parsed(line).is_none(), "{line}");

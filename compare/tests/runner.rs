@@ -1,7 +1,6 @@
 //! The program as a whole, with runners of several sorts behind the pipe.
 
 use std::fs;
-use std::os::unix::fs::PermissionsExt;
 use std::path::{Path, PathBuf};
 use std::process::{Command, Output};
 
@@ -13,11 +12,11 @@ fn folder(name: &str) -> PathBuf {
     folder
 }
 
-fn compare(runner: &Path, scripts: &Path, calls: &str) -> Output {
+fn compare(runner: &[&str], scripts: &Path, calls: &str) -> Output {
     Command::new(COMPARE)
-        .arg(runner)
         .args(["--calls", calls, "--scripts"])
         .arg(scripts)
+        .args(runner)
         .output()
         .unwrap()
 }
@@ -29,9 +28,7 @@ fn text(output: &Output) -> String {
 #[test]
 fn a_runner_that_agrees_gives_no_difference() {
     let folder = folder("agrees");
-    let runner = folder.join("runner.sh");
-    fs::write(&runner, format!("#!/bin/sh\nexec {COMPARE} --second\n")).unwrap();
-    fs::set_permissions(&runner, fs::Permissions::from_mode(0o755)).unwrap();
+    let runner = [COMPARE, "--second"];
     let output = compare(&runner, &folder, "30000");
     assert!(
         text(&output).ends_with("differences 0\n"),
@@ -48,7 +45,7 @@ fn a_runner_that_agrees_gives_no_difference() {
 fn runners_that_echo_or_read_nothing_are_found_out() {
     for (name, runner) in [("echo", "/bin/cat"), ("nothing", "/bin/true")] {
         let folder = folder(name);
-        let output = compare(Path::new(runner), &folder, "1000");
+        let output = compare(&[runner], &folder, "1000");
         assert!(text(&output).contains("seed 1 "), "{}", text(&output));
         assert!(text(&output).contains("letter L"), "{}", text(&output));
         assert_eq!(output.status.code(), Some(1));
@@ -59,7 +56,7 @@ fn runners_that_echo_or_read_nothing_are_found_out() {
 #[test]
 fn a_runner_that_cannot_be_started_fails() {
     let folder = folder("missing");
-    let output = compare(&folder.join("no such file"), &folder, "1000");
+    let output = compare(&["./no such file"], &folder, "1000");
     assert!(text(&output).contains("runner failed"));
     assert_eq!(output.status.code(), Some(1));
 }

@@ -4,6 +4,10 @@ use super::bench::Bench;
 use crate::answer::Answer;
 use crate::router::{offered, Found, Grid, Slot, CODES};
 use crate::script::{Command, LENGTH_MOST};
+use std::ops::RangeInclusive;
+
+/// As 0 lies before the codes.
+pub const PAST_THE_CODES: u32 = *CODES.end() + 1;
 
 /// How traffic goes at the moment.
 #[derive(Clone, Copy, Default)]
@@ -45,6 +49,11 @@ pub fn take_in_at(bench: &mut Bench, source: u8) {
     });
 }
 
+/// Every code, and the number on either side of them.
+pub fn codes_and_beyond() -> RangeInclusive<u32> {
+    0..=PAST_THE_CODES
+}
+
 /// The codes that the rule offers the packet in the slot.
 pub fn codes_for(bench: &Bench, slot: u32) -> Vec<u32> {
     let codes = || {
@@ -67,7 +76,7 @@ pub fn move_something(bench: &mut Bench, mood: Mood) {
     let sensible = codes_for(bench, slot);
     let code = match bench.dice.percent(90) {
         true => bench.dice.pick(&sensible),
-        false => bench.dice.pick(&[0, 1, 2, 3, 4, 5, 6, 7, 8]),
+        false => bench.dice.pick(&codes_and_beyond().collect::<Vec<u32>>()),
     };
     if code != 7 || mood.delivering {
         bench.call(Command::Move { slot, code });
@@ -138,8 +147,9 @@ pub fn follow_find(bench: &mut Bench) -> Option<Found> {
 /// accepted move empties the slot.
 pub fn every_code(bench: &mut Bench, slot: u32) {
     let sensible = codes_for(bench, slot);
-    let start = bench.dice.number() % 9;
-    let mut codes: Vec<u32> = (start..9).chain(0..start).collect();
+    let mut codes: Vec<u32> = codes_and_beyond().collect();
+    let start = bench.dice.number() as usize % codes.len();
+    codes.rotate_left(start);
     codes.sort_by_key(|code| sensible.contains(code));
     for code in codes {
         bench.call(Command::Move { slot, code });

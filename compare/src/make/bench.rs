@@ -3,10 +3,10 @@
 
 use super::dice::Dice;
 use crate::answer::Answer;
+use crate::calls::SecondRouter;
 use crate::router::{Grid, Slot, Table, Trailer, SLOT_BYTES, TRAILER_BYTES};
 use crate::script::{Command, SCRIPT_MOST};
 use crate::second::Memory;
-use crate::seven_calls::SecondRouter;
 
 /// Slices up to this length are shown after every call; of longer ones, on the average, as many
 /// bytes a call.
@@ -94,7 +94,7 @@ impl Bench {
         }
     }
 
-    /// One of the seven calls, and what it left shown where that is cheap.
+    /// One of the calls, and what it left shown where that is cheap.
     pub fn call(&mut self, command: Command) -> Option<Answer> {
         let answer = self.put(command);
         if let Command::Copy { .. } = command {

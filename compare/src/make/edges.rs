@@ -68,7 +68,7 @@ fn one(bench: &mut Bench, sizes: Sizes) {
         },
         3..=4 => Command::Move {
             slot: slot_at_an_end(bench, sizes),
-            code: bench.dice.pick(&[0, 1, 2, 3, 4, 5, 6, 7, 8, u32::MAX]),
+            code: code_at_an_end(bench),
         },
         5 => Command::Payload {
             slot: slot_at_an_end(bench, sizes),
@@ -88,6 +88,11 @@ fn one(bench: &mut Bench, sizes: Sizes) {
         }
     };
     bench.call(command);
+}
+
+fn code_at_an_end(bench: &mut Bench) -> u32 {
+    let codes: Vec<u32> = acts::codes_and_beyond().chain([u32::MAX]).collect();
+    bench.dice.pick(&codes)
 }
 
 fn slot_at_an_end(bench: &mut Bench, sizes: Sizes) -> u32 {

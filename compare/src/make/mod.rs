@@ -23,7 +23,7 @@ pub use dice::Dice;
 type Recipe = fn(&mut Bench);
 
 /// The malformed scripts come after these: they are bytes, not commands on a bench.
-const RECIPES: [(&str, Recipe); 10] = [
+const RECIPES: &[(&str, Recipe)] = &[
     ("traffic", traffic::make),
     ("random calls", random_calls::make),
     ("damage", damage::make),
@@ -36,9 +36,11 @@ const RECIPES: [(&str, Recipe); 10] = [
     ("forged packets", forged::make),
 ];
 
+/// Consecutive seeds go through the recipes in turn, the malformed scripts last.
+const TURN: u64 = RECIPES.len() as u64 + 1;
+
 fn recipe(seed: u64) -> Option<(&'static str, Recipe)> {
-    let count = RECIPES.len() as u64 + 1;
-    let number = usize::try_from(seed % count).ok()?;
+    let number = usize::try_from(seed % TURN).ok()?;
     RECIPES.get(number).copied()
 }
 
@@ -61,9 +63,9 @@ pub fn script(seed: u64) -> Vec<u8> {
 #[cfg(test)]
 mod tests {
     use super::*;
+    use crate::calls::SecondRouter;
     use crate::script::SCRIPT_MOST;
     use crate::second::run;
-    use crate::seven_calls::SecondRouter;
 
     fn last_line(script: &[u8]) -> String {
         let lines = run(script, &SecondRouter);
@@ -77,7 +79,7 @@ mod tests {
     fn a_seed_makes_the_same_script_again() {
         for seed in 0..20 {
             assert_eq!(script(seed), script(seed));
-            assert_ne!(script(seed), script(seed + 11));
+            assert_ne!(script(seed), script(seed + TURN));
         }
     }
 
@@ -97,7 +99,7 @@ mod tests {
 
     #[test]
     fn most_of_the_malformed_scripts_are_malformed() {
-        let seeds = (0..440).filter(|seed| recipe(*seed).is_none());
+        let seeds = (0..40 * TURN).filter(|seed| recipe(*seed).is_none());
         let ends = seeds.map(|seed| last_line(&script(seed)));
         let malformed = ends.filter(|end| end.starts_with("malformed at ")).count();
         assert!(malformed > 20, "{malformed} of 40");
@@ -106,7 +108,7 @@ mod tests {
     #[test]
     fn no_table_that_a_script_makes_is_stuck() {
         let stuck = format!("find 0 {} 0", usize::MAX);
-        for seed in 0..110 {
+        for seed in 0..10 * TURN {
             let lines = run(&script(seed), &SecondRouter);
             assert!(lines.iter().all(|line| line.text != stuck), "seed {seed}");
         }

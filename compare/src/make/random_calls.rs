@@ -6,7 +6,7 @@ use super::sizes::{lend_cleared, Sizes};
 use crate::script::Command;
 
 /// Ends of ranges, and numbers that fall into a range when cut to fewer bits.
-const EXTREMES: [u32; 20] = [
+const EXTREMES: &[u32] = &[
     0,
     1,
     2,
@@ -98,21 +98,21 @@ fn slot(bench: &mut Bench) -> u32 {
     let random = bench.dice.number();
     match bench.dice.below(4) {
         0..=1 => random.checked_rem(count as u32 + 2).unwrap_or(0),
-        2 => bench.dice.pick(&EXTREMES),
+        2 => bench.dice.pick(EXTREMES),
         _ => random,
     }
 }
 
 fn code(bench: &mut Bench) -> u32 {
     match bench.dice.percent(75) {
-        true => bench.dice.number() % 9,
-        false => bench.dice.pick(&EXTREMES),
+        true => bench.dice.number() % (acts::PAST_THE_CODES + 1),
+        false => bench.dice.pick(EXTREMES),
     }
 }
 
 fn size(bench: &mut Bench) -> u32 {
     match bench.dice.percent(80) {
         true => bench.dice.number() % 4,
-        false => bench.dice.pick(&EXTREMES),
+        false => bench.dice.pick(EXTREMES),
     }
 }

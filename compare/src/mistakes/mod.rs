@@ -5,9 +5,9 @@ mod slots;
 mod taking;
 mod whole_table;
 
-use crate::seven_calls::SevenCalls;
+use crate::calls::Calls;
 
-pub const MISTAKES: [(&str, &dyn SevenCalls); 17] = [
+pub const MISTAKES: &[(&str, &dyn Calls)] = &[
     ("cuts-numbers", &moving::CutsNumbers),
     ("code-after-slot", &moving::CodeAfterSlot),
     ("delivers-without-count", &moving::DeliversWithoutCount),
@@ -27,8 +27,7 @@ pub const MISTAKES: [(&str, &dyn SevenCalls); 17] = [
     ("skip-serial-check", &whole_table::SkipSerialCheck),
 ];
 
-pub fn named(name: &str) -> Option<&'static dyn SevenCalls> {
-    let mut mistakes = MISTAKES.into_iter();
-    let (_, router) = mistakes.find(|(known, _)| *known == name)?;
-    Some(router)
+pub fn named(name: &str) -> Option<&'static dyn Calls> {
+    let (_, router) = MISTAKES.iter().find(|(known, _)| *known == name)?;
+    Some(*router)
 }

@@ -1,17 +1,17 @@
 //! Mistakes in moving.
 
 use super::slots::{judged, place_of, put_slot_bytes, slot_bytes};
+use crate::calls::Calls;
 use crate::router::{
     make_move, read_payload, Kind, Moved, Node, Packet, Place, Refusal, Slot, Table, CODES,
 };
-use crate::seven_calls::SevenCalls;
 
 type Answer = Result<Moved, Refusal>;
 
 /// Numbers cut to 16 bits.
 pub struct CutsNumbers;
 
-impl SevenCalls for CutsNumbers {
+impl Calls for CutsNumbers {
     fn make_move(&self, slice: &mut [u8], slot: u32, code: u32) -> Answer {
         make_move(slice, slot & 0xFFFF, code & 0xFFFF)
     }
@@ -20,7 +20,7 @@ impl SevenCalls for CutsNumbers {
 /// 3 and 4 before a code outside 1 to 7.
 pub struct CodeAfterSlot;
 
-impl SevenCalls for CodeAfterSlot {
+impl Calls for CodeAfterSlot {
     fn make_move(&self, slice: &mut [u8], slot: u32, code: u32) -> Answer {
         if CODES.contains(&code) {
             return make_move(slice, slot, code);
@@ -32,7 +32,7 @@ impl SevenCalls for CodeAfterSlot {
 
 pub struct DeliversWithoutCount;
 
-impl SevenCalls for DeliversWithoutCount {
+impl Calls for DeliversWithoutCount {
     fn make_move(&self, slice: &mut [u8], slot: u32, code: u32) -> Answer {
         let before = Table::open_to_write(slice).map(|table| table.trailer);
         let answer = make_move(slice, slot, code);
@@ -69,7 +69,7 @@ impl FallInA {
     }
 }
 
-impl SevenCalls for FallInA {
+impl Calls for FallInA {
     fn make_move(&self, slice: &mut [u8], slot: u32, code: u32) -> Answer {
         let answer = make_move(slice, slot, code);
         if answer != Err(Refusal::NotOffered) || code != 5 {
@@ -82,7 +82,7 @@ impl SevenCalls for FallInA {
 /// The highest empty slot of the target queue in place of the lowest.
 pub struct HighestSlot;
 
-impl SevenCalls for HighestSlot {
+impl Calls for HighestSlot {
     fn make_move(&self, slice: &mut [u8], slot: u32, code: u32) -> Answer {
         let answer = make_move(slice, slot, code)?;
         let Moved::To(lowest) = answer else {
@@ -107,7 +107,7 @@ impl SevenCalls for HighestSlot {
 /// The fourth: the distance to the destination as the hop record.
 pub struct HopsToGo;
 
-impl SevenCalls for HopsToGo {
+impl Calls for HopsToGo {
     fn make_move(&self, slice: &mut [u8], slot: u32, code: u32) -> Answer {
         let answer = make_move(slice, slot, code)?;
         if let Moved::To(target) = answer {
@@ -126,7 +126,7 @@ impl SevenCalls for HopsToGo {
 /// The second: only the mark of the old slot becomes zero.
 pub struct MarkOnly;
 
-impl SevenCalls for MarkOnly {
+impl Calls for MarkOnly {
     fn make_move(&self, slice: &mut [u8], slot: u32, code: u32) -> Answer {
         let number = usize::try_from(slot).unwrap_or_default();
         let [_, rest @ ..] = slot_bytes(slice, number);
@@ -144,7 +144,7 @@ impl SevenCalls for MarkOnly {
 /// The third: spoiled slots count as empty where no other is left.
 pub struct SpoiledAsEmpty;
 
-impl SevenCalls for SpoiledAsEmpty {
+impl Calls for SpoiledAsEmpty {
     fn make_move(&self, slice: &mut [u8], slot: u32, code: u32) -> Answer {
         let answer = make_move(slice, slot, code);
         if answer != Err(Refusal::NoEmptySlot) {

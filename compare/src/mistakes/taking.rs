@@ -1,13 +1,13 @@
 //! Mistakes in clearing, taking in and reading.
 
 use super::slots::{grid, slot_bytes};
+use crate::calls::Calls;
 use crate::router::{clear, read_payload, take_in, Refusal, TakenIn, Trailer};
-use crate::seven_calls::SevenCalls;
 
 /// Zeros in the whole slice, not in the table alone.
 pub struct ClearsBeforeTable;
 
-impl SevenCalls for ClearsBeforeTable {
+impl Calls for ClearsBeforeTable {
     fn clear(&self, slice: &mut [u8], [width, height, depth]: [u32; 3]) -> Result<(), Refusal> {
         clear(slice, width, height, depth)?;
         slice.fill(0);
@@ -17,7 +17,7 @@ impl SevenCalls for ClearsBeforeTable {
 
 pub struct DepthZeroRefused;
 
-impl SevenCalls for DepthZeroRefused {
+impl Calls for DepthZeroRefused {
     fn clear(&self, slice: &mut [u8], [width, height, depth]: [u32; 3]) -> Result<(), Refusal> {
         match depth {
             0 => Err(Refusal::SizeNotAccepted),
@@ -29,7 +29,7 @@ impl SevenCalls for DepthZeroRefused {
 /// 6 before 7.
 pub struct FullBeforeEnd;
 
-impl SevenCalls for FullBeforeEnd {
+impl Calls for FullBeforeEnd {
     fn take_in(&self, slice: &mut [u8], ends: [u8; 2], load: [u8; 8]) -> Result<TakenIn, Refusal> {
         let [source, destination] = ends;
         let answer = take_in(slice, source, destination, load);
@@ -49,7 +49,7 @@ impl SevenCalls for FullBeforeEnd {
 /// Delivered equal to taken overlooked where a slot is judged.
 pub struct ReadsAtTheEnd;
 
-impl SevenCalls for ReadsAtTheEnd {
+impl Calls for ReadsAtTheEnd {
     fn read_payload(&self, slice: &[u8], slot: u32) -> Result<Vec<u8>, Refusal> {
         let answer = read_payload(slice, slot).map(<[u8]>::to_vec);
         if answer != Err(Refusal::SlotSpoiled) {

@@ -1,12 +1,12 @@
 //! Mistakes in the calls that go through the whole table.
 
 use super::slots::{grid, place_of};
+use crate::calls::Calls;
 use crate::router::{find, full_check, outward_copy, CheckFault, Found, Kind, Refusal};
-use crate::seven_calls::SevenCalls;
 
 pub struct CopyKeepsPayload;
 
-impl SevenCalls for CopyKeepsPayload {
+impl Calls for CopyKeepsPayload {
     fn outward_copy(&self, slice: &[u8], second: &mut [u8]) -> Result<(), Refusal> {
         outward_copy(slice, second)?;
         let start = slice.len().saturating_sub(second.len());
@@ -18,7 +18,7 @@ impl SevenCalls for CopyKeepsPayload {
 /// 9 before 10.
 pub struct CopyLengthFirst;
 
-impl SevenCalls for CopyLengthFirst {
+impl Calls for CopyLengthFirst {
     fn outward_copy(&self, slice: &[u8], second: &mut [u8]) -> Result<(), Refusal> {
         let right = grid(slice).map(|grid| grid.table_bytes());
         match right {
@@ -31,7 +31,7 @@ impl SevenCalls for CopyLengthFirst {
 /// The fifth of the paper's easy mistakes: finding by A and B only.
 pub struct FindSkipsWaiting;
 
-impl SevenCalls for FindSkipsWaiting {
+impl Calls for FindSkipsWaiting {
     fn find(&self, slice: &[u8]) -> Result<Found, Refusal> {
         let found = find(slice)?;
         let slot = u32::try_from(found.slot).unwrap_or_default();
@@ -44,7 +44,7 @@ impl SevenCalls for FindSkipsWaiting {
 
 pub struct SkipCountCheck;
 
-impl SevenCalls for SkipCountCheck {
+impl Calls for SkipCountCheck {
     fn full_check(&self, slice: &[u8]) -> Result<(), Refusal> {
         match full_check(slice) {
             Err(Refusal::CheckFailed(CheckFault::CountsDisagree(_))) => Ok(()),
@@ -55,7 +55,7 @@ impl SevenCalls for SkipCountCheck {
 
 pub struct SkipSerialCheck;
 
-impl SevenCalls for SkipSerialCheck {
+impl Calls for SkipSerialCheck {
     fn full_check(&self, slice: &[u8]) -> Result<(), Refusal> {
         match full_check(slice) {
             Err(Refusal::CheckFailed(CheckFault::SerialTwice(_))) => Ok(()),

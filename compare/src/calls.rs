@@ -1,8 +1,8 @@
-//! The seven calls as a set that a deliberate mistake can change one of.
+//! The calls as a set that a deliberate mistake can change one of.
 
 use crate::router::{self, Found, Moved, Refusal, TakenIn};
 
-pub trait SevenCalls {
+pub trait Calls {
     fn clear(&self, slice: &mut [u8], sizes: [u32; 3]) -> Result<(), Refusal> {
         let [width, height, depth] = sizes;
         router::clear(slice, width, height, depth)
@@ -37,4 +37,4 @@ pub trait SevenCalls {
 /// The second router without a mistake.
 pub struct SecondRouter;
 
-impl SevenCalls for SecondRouter {}
+impl Calls for SecondRouter {}
