@@ -1,29 +1,46 @@
-//! Links the archive that `rt staticlib paneglove` writes.
+//! Links the archive that tools/archive builds, and refuses every target but the archive's own.
 use std::env;
 use std::path::{Path, PathBuf};
 use std::process::exit;
 
+const ARCHIVE: &str = "libpaneglove.a";
+
 fn main() {
     println!("cargo:rerun-if-env-changed=PANEGLOVE_ARCHIVE_DIR");
-    let dir = match env::var_os("PANEGLOVE_ARCHIVE_DIR") {
-        Some(dir) => PathBuf::from(dir),
-        None => Path::new(&env::var_os("CARGO_MANIFEST_DIR").expect("cargo sets it"))
-            .join("../target/staticlib"),
-    };
-    let archive = dir.join("libpaneglove.a");
+    refuse_other_targets();
+    let dir = archive_dir();
+    let archive = dir.join(ARCHIVE);
     println!("cargo:rerun-if-changed={}", archive.display());
-    let arch = env::var("CARGO_CFG_TARGET_ARCH").unwrap_or_default();
-    if arch != "x86_64" && env::var_os("PANEGLOVE_ARCHIVE_DIR").is_none() {
-        eprintln!("paneglove: the archive is x86-64 code, and this build is for {arch}. Build with --target x86_64-unknown-linux-gnu, or set PANEGLOVE_ARCHIVE_DIR to an archive for this machine (bench/run makes one for measuring).");
-        exit(1);
-    }
     if !archive.is_file() {
-        eprintln!(
-            "paneglove: no archive at {}. Run `rt staticlib paneglove` at the repository's root, or set PANEGLOVE_ARCHIVE_DIR to the folder that has libpaneglove.a.",
+        refuse(&format!(
+            "no archive at {}. Run tools/archive in the repository, or set PANEGLOVE_ARCHIVE_DIR to the folder that has {ARCHIVE}.",
             archive.display()
-        );
-        exit(1);
+        ));
     }
     println!("cargo:rustc-link-search=native={}", dir.display());
     println!("cargo:rustc-link-lib=static=paneglove");
+}
+
+fn archive_dir() -> PathBuf {
+    match env::var_os("PANEGLOVE_ARCHIVE_DIR") {
+        Some(dir) => PathBuf::from(dir),
+        None => Path::new(env!("CARGO_MANIFEST_DIR")).join("../target/staticlib"),
+    }
+}
+
+/// The archive's functions take and give structs as C does on x86-64 Linux; called in another way they would write over the caller's bytes.
+fn refuse_other_targets() {
+    let part = |name| env::var(format!("CARGO_CFG_TARGET_{name}")).unwrap_or_default();
+    let target = ["ARCH", "OS", "POINTER_WIDTH"].map(part);
+    if target != ["x86_64", "linux", "64"] {
+        let [arch, os, width] = target;
+        refuse(&format!(
+            "the archive is x86-64 code for Linux, and this build is for {arch}, {os}, {width} bits. Build for x86_64-unknown-linux-gnu."
+        ));
+    }
+}
+
+fn refuse(why: &str) -> ! {
+    eprintln!("paneglove: {why}");
+    exit(1)
 }

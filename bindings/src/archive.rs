@@ -1,7 +1,8 @@
 //! The archive's functions, as include/paneglove.h declares them, and the only unsafe code.
 //!
 //! Each call is sound for the same reason: a Rust slice's pointer is good for its length, `&mut` is the only way to its bytes while the call
-//! runs, and the proved functions touch nothing but the slices that they are lent.
+//! runs, and the proved functions touch nothing but the slices that they are lent. The archive's functions are called as C calls them on
+//! x86-64 Linux, and build.rs refuses every other target.
 
 #[repr(C)]
 pub struct Payload {

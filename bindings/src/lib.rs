@@ -1,8 +1,8 @@
 //! Paneglove's packet table for a rectangular grid, from Rust.
 //!
-//! The calls are proved in Rattle and linked from the archive that `rt staticlib paneglove` writes; this crate only wraps them. The table is
-//! the last part of the slice lent, and bytes before it are neither read nor written. Any bytes and any numbers get an answer, and a refused
-//! call changes no byte.
+//! The calls are proved in Rattle and linked from the archive that `tools/archive` builds, which is x86-64 code for Linux; this crate only wraps
+//! them, and refuses to be built for anything else. The table is the last part of the slice lent, and bytes before it are neither read nor
+//! written. Any bytes and any numbers get an answer, and a refused call changes no byte.
 //!
 //! ```
 //! use paneglove::{clear, find, make_move, node, take_in, Moved, Refusal};
@@ -24,82 +24,15 @@
 //! # Ok::<(), Refusal>(())
 //! ```
 mod archive;
+mod refusal;
 
-use std::error::Error;
-use std::fmt;
+pub use refusal::Refusal;
 
 /// The code of delivery, the one move that hands its packet out.
 pub const DELIVER: u32 = 7;
 
 /// The buffer that a listing needs, whatever the slice.
 pub const LISTING_ROOM: usize = 226_627;
-
-/// Why a call was refused: document 01's eleven numbers.
-#[derive(Clone, Copy, Debug, PartialEq, Eq, Hash)]
-pub enum Refusal {
-    /// 1
-    Trailer,
-    /// 2
-    OutOfRange,
-    /// 3
-    Empty,
-    /// 4
-    Spoiled,
-    /// 5
-    NotOffered,
-    /// 6
-    NoRoom,
-    /// 7
-    AllTaken,
-    /// 8
-    Sizes,
-    /// 9
-    Buffer,
-    /// 10, with the slot at fault, or the number of slots where the counts disagree
-    Fault { place: u32 },
-    /// 11
-    NothingHeld,
-}
-
-impl Refusal {
-    /// The paper's number.
-    pub fn number(self) -> u32 {
-        match self {
-            Refusal::Trailer => 1,
-            Refusal::OutOfRange => 2,
-            Refusal::Empty => 3,
-            Refusal::Spoiled => 4,
-            Refusal::NotOffered => 5,
-            Refusal::NoRoom => 6,
-            Refusal::AllTaken => 7,
-            Refusal::Sizes => 8,
-            Refusal::Buffer => 9,
-            Refusal::Fault { .. } => 10,
-            Refusal::NothingHeld => 11,
-        }
-    }
-}
-
-impl fmt::Display for Refusal {
-    fn fmt(&self, f: &mut fmt::Formatter<'_>) -> fmt::Result {
-        let text = match self {
-            Refusal::Trailer => "the trailer is not good",
-            Refusal::OutOfRange => "no such slot, no such code, or a coordinate off the grid",
-            Refusal::Empty => "the slot is empty",
-            Refusal::Spoiled => "the slot is spoiled",
-            Refusal::NotOffered => "the rule doesn't offer the move",
-            Refusal::NoRoom => "the queue has no empty slot",
-            Refusal::AllTaken => "all serials are given out",
-            Refusal::Sizes => "width, height or depth is not accepted",
-            Refusal::Buffer => "the buffer has the wrong length",
-            Refusal::Fault { place } => return write!(f, "the full check failed at {place}"),
-            Refusal::NothingHeld => "no slot is held",
-        };
-        f.write_str(text)
-    }
-}
-
-impl Error for Refusal {}
 
 /// A packet taken in.
 #[derive(Clone, Copy, Debug, PartialEq, Eq)]
@@ -135,21 +68,10 @@ pub const fn node(x: u8, y: u8) -> u8 {
 }
 
 fn accepted<T>(number: u32, place: u32, answer: T) -> Result<T, Refusal> {
-    Err(match number {
-        0 => return Ok(answer),
-        1 => Refusal::Trailer,
-        2 => Refusal::OutOfRange,
-        3 => Refusal::Empty,
-        4 => Refusal::Spoiled,
-        5 => Refusal::NotOffered,
-        6 => Refusal::NoRoom,
-        7 => Refusal::AllTaken,
-        8 => Refusal::Sizes,
-        9 => Refusal::Buffer,
-        10 => Refusal::Fault { place },
-        11 => Refusal::NothingHeld,
-        _ => unreachable!("no call answers {number}"),
-    })
+    match number {
+        0 => Ok(answer),
+        _ => Err(Refusal::of(number, place)),
+    }
 }
 
 /// Makes the slice's last part a fresh table; depth 0 means 5. Refused by `Sizes`, then `Buffer` where the slice is shorter than the table.

@@ -178,27 +178,6 @@ fn a_full_queue_refuses() {
 }
 
 #[test]
-fn every_refusal_has_its_number() {
-    let all = [
-        Refusal::Trailer,
-        Refusal::OutOfRange,
-        Refusal::Empty,
-        Refusal::Spoiled,
-        Refusal::NotOffered,
-        Refusal::NoRoom,
-        Refusal::AllTaken,
-        Refusal::Sizes,
-        Refusal::Buffer,
-        Refusal::Fault { place: 0 },
-        Refusal::NothingHeld,
-    ];
-    for (number, refusal) in (1..).zip(all) {
-        assert_eq!(refusal.number(), number);
-        assert!(!refusal.to_string().is_empty());
-    }
-}
-
-#[test]
 fn the_listing_of_document_01() {
     let mut s = vec![0; 112];
     let mut out = vec![7; LISTING_ROOM + 1];
