@@ -7,7 +7,7 @@ use mathlib.Core.Path.{_≡_, ap}
 use mathlib.Core.List.{List}
 use contract.Lifetimes.{Lfts}
 use denote.Ref.{RefT, at-last}
-use Rattle.router.proofs.OneOutcome.{both}
+use Rattle.table.proofs.CallLaws.{both}
 use Rattle.listing.specs.declared.answering.Listed.{Listed}
 use Rattle.listing.specs.declared.sending.Sent.{Sent}
 use Rattle.listing.specs.Output.{listedInto, verdictInto}

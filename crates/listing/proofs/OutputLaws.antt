@@ -1,38 +1,25 @@
--- Laws of what is printed: which of its texts, by the input's length, its trailer and its check; and a text in a buffer that has room.
+-- Laws of what is printed: which of its texts, by the input's length and its trailer; and a text in a buffer that has room.
 -- Assumes nothing.
 use Prim.Native.Nat.{ℕ, _-_, _≤_, _<_}
 use mathlib.Core.Path.{_≡_, refl, sym, ap, _∙_}
-use mathlib.Core.List.{List, [], _∷_}
-use mathlib.Core.Logic.{⊎-elim}
+use mathlib.Core.List.{List}
 use native.Mathlib.Omega.{arith}
-use denote.Enum.Declared.{tagOf}
-use types.Run.{OneOf}
 use lib.ListN.{length, take, drop}
 use lib.Seq.{length-take-le}
 use borrow.Author.Tests.{lt-ltb, le-ltb}
 use Rattle.slots.proofs.Parts.{lent-rest}
 use Rattle.network.proofs.Tests.{cond-true, cond-false}
 use Rattle.table.specs.declared.trailer.Head.{Head}
-use Rattle.table.specs.declared.trailer.Headed.{Headed}
 use Rattle.table.specs.declared.trailer.Headed.the-variants.{Good, Bad}
 use Rattle.table.specs.Refusals.{trailer-not-good, wrong-length}
 use Rattle.table.specs.Trailer.{trailerOf}
-use Rattle.router.specs.Outcome.{outcome}
-use Rattle.survey.specs.declared.checking.Checked.{Checked}
-use Rattle.survey.specs.declared.checking.Checked.the-variants.{Passes, BadTrailer, FaultAt}
-use Rattle.survey.specs.Check.{checkedIn, checkedBy, checkedSlice}
-use Rattle.survey.proofs.checking.Checked.{the-type}
+use Rattle.table.specs.Calls.{outcome}
+use Rattle.survey.specs.Check.{unlessFault, readBy, onPassing, checkedSlice}
 use Rattle.text.specs.Put.{Wrote}
 use Rattle.text.proofs.PutLaws.{wrote-long}
 use Rattle.listing.specs.declared.answering.Listed.{Listed}
 use Rattle.listing.specs.Lines.{tableLines}
-use Rattle.listing.specs.Output.{most, refusalLine, verdictLine, unlessRefused, linesBy, listing, verdict, listed, into}
-
--- past an `else` of `Passes`, whose tag is 0
-pub refusing : (c : Checked) (t : List ℕ) → OneOf (1 ∷ 2 ∷ []) (tagOf the-type c) → unlessRefused c t ≡ verdictLine c
-refusing Passes t k = ⊎-elim (λ e. absurd (omega arith)) (λ e. absurd (omega arith)) k
-refusing BadTrailer t k = refl
-refusing (FaultAt place) t k = refl
+use Rattle.listing.specs.Output.{most, refusalLine, faultLine, verdictLine, listing, verdict, listed, into}
 
 module _ (s : List ℕ) where
   module _ (l : most < length s) where
@@ -49,25 +36,22 @@ module _ (s : List ℕ) where
     unfolding verdict
     verdict-read = cond-false _ _ (le-ltb most (length s) l)
 
-    listing-read : listing s ≡ unlessRefused (checkedSlice s) (linesBy s (trailerOf s))
+    pub listing-read : listing s ≡ onPassing s (refusalLine trailer-not-good) faultLine tableLines
     unfolding listing
     listing-read = cond-false _ _ (le-ltb most (length s) l)
 
     pub listing-bad : trailerOf s ≡ Bad → listing s ≡ refusalLine trailer-not-good
-    unfolding checkedSlice
-    listing-bad e = listing-read ∙ ap (λ (h : Headed). unlessRefused (checkedBy s h) (linesBy s h)) e
+    listing-bad e = listing-read ∙ ap (readBy s (refusalLine trailer-not-good) (unlessFault faultLine tableLines)) e
 
     module _ (h : Head) (e : trailerOf s ≡ Good h) where
       abbrev start : ℕ
       start = length s - h .size
 
-      pub listing-good : listing s ≡ unlessRefused (checkedIn h (drop start s)) (tableLines h (drop start s))
-      unfolding checkedSlice
-      listing-good = listing-read ∙ ap (λ (x : Headed). unlessRefused (checkedBy s x) (linesBy s x)) e
+      listing-good : listing s ≡ unlessFault faultLine tableLines h (drop start s)
+      listing-good = listing-read ∙ ap (readBy s (refusalLine trailer-not-good) (unlessFault faultLine tableLines)) e
 
       -- the same of `&s[start..]`
-      pub listing-lent : listing s
-          ≡ unlessRefused (checkedIn h (take (length s - start) (drop start s))) (tableLines h (take (length s - start) (drop start s)))
+      pub listing-lent : listing s ≡ unlessFault faultLine tableLines h (take (length s - start) (drop start s))
       listing-lent = rw (lent-rest s start) listing-good
 
 -- what both calls ensure

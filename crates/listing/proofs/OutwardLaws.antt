@@ -12,28 +12,27 @@ use lib.Dec.{ltb}
 use lib.ListN.{length, take, drop, length-append}
 use lib.Seq.{length-take-le}
 use borrow.Author.Tests.{lt-ltb, le-ltb, eq-eqb}
+use Rattle.network.specs.declared.Lowest.{Lowest}
+use Rattle.network.specs.declared.Lowest.the-variants.{At, Nowhere}
 use Rattle.network.proofs.Tests.{clash, cond-true, cond-false}
 use Rattle.table.specs.declared.trailer.Head.{Head}
-use Rattle.table.specs.declared.trailer.Headed.{Headed}
 use Rattle.table.specs.declared.trailer.Headed.the-variants.{Good, Bad}
 use Rattle.table.specs.Refusals.{wrong-length}
 use Rattle.table.specs.Trailer.{trailerOf}
 use Rattle.table.specs.Layout.{layoutOf}
-use Rattle.table.proofs.Sizes.{slots-most}
+use Rattle.table.specs.Calls.{Outcome, outcome}
+use Rattle.table.proofs.BoardLaws.{slots-most, slots-inside}
 use Rattle.table.proofs.TrailerLaws.{trailer-good, trailer-sized, length-table}
-use Rattle.router.specs.Outcome.{outcome}
-use Rattle.router.proofs.OneOutcome.{both}
-use Rattle.survey.specs.declared.checking.Checked.{Checked}
-use Rattle.survey.specs.declared.checking.Checked.the-variants.{Passes, BadTrailer, FaultAt}
+use Rattle.table.proofs.CallLaws.{both}
 use Rattle.survey.specs.declared.copying.Copied.{Copied}
 use Rattle.survey.specs.declared.copying.Copied.the-variants as copied
-use Rattle.survey.specs.Check.{checkedIn, checkedBy, checkedSlice}
-use Rattle.survey.specs.Copy.{veiled, copiedAfter, copiedIn, copiedBy, copiedSlice}
+use Rattle.survey.specs.Check.{faultIn, faultOr, unlessFault, readBy, onPassing}
+use Rattle.survey.specs.Copy.{veiled, copiedIn, copiedSlice}
 use Rattle.survey.proofs.CopyLaws.{length-veiled}
 use Rattle.survey.proofs.copying.Copied.{the-type}
 use Rattle.listing.specs.declared.sending.Sent.{Sent}
 use Rattle.listing.specs.Output.{most, verdict, lineRoom}
-use Rattle.listing.specs.Outward.{copyAlone, wordsAlone, copyUnless, copyBy, sentOf, copyRoom, sent, laid, sentInto}
+use Rattle.listing.specs.Outward.{Sending, copyAlone, wordsAlone, withheld, copyOf, sentOf, copyRoom, sent, laid, sentInto}
 
 -- ---- which of the two
 
@@ -45,57 +44,63 @@ module _ (s : List ℕ) where
   unfolding sentOf
   sent-long l = cond-true _ _ (lt-ltb most (length s) l)
 
+  -- the copy, or words
+  abbrev pub sentBy : List ℕ → Sending
+  sentBy words = onPassing s (wordsAlone words) (withheld words) copyOf
+
   module _ (l : length s ≤ most) where
-    pub sent-by : (x : Headed) → trailerOf s ≡ x → sentOf s ≡ copyUnless (checkedBy s x) (copyBy s x) (verdict s)
-    unfolding sentOf checkedSlice
-    sent-by x e =
-        cond-false _ _ (le-ltb most (length s) l) ∙ ap (λ (z : Headed). copyUnless (checkedBy s z) (copyBy s z) (verdict s)) e
+    pub sent-read : sentOf s ≡ sentBy (verdict s)
+    unfolding sentOf
+    sent-read = cond-false _ _ (le-ltb most (length s) l)
+
+    abbrev asked : Head → List ℕ → Sending
+    asked = unlessFault (withheld (verdict s)) copyOf
 
     pub sent-bad : trailerOf s ≡ Bad → sentOf s ≡ wordsAlone (verdict s)
-    sent-bad e = sent-by Bad e
+    sent-bad e = sent-read ∙ ap (readBy s (wordsAlone (verdict s)) asked) e
 
     module _ (h : Head) (e : trailerOf s ≡ Good h) where
       abbrev table : List ℕ
       table = drop (length s - h .size) s
 
       pub copy-fits : h .size ≤ copyRoom
-      copy-fits = let g = trailer-good s e in omega (arith, g .size-is, slots-most (g .ranges))
+      copy-fits = let g = trailer-good s e in omega (arith, g .size-is, slots-most (h .board) (g .ranges))
+
+      sent-is : (x : Lowest) → faultIn h table ≡ x → sentOf s ≡ faultOr (withheld (verdict s)) (copyOf h table) x
+      sent-is x f =
+          sent-read ∙ ap (readBy s (wordsAlone (verdict s)) asked) e ∙ ap (faultOr (withheld (verdict s)) (copyOf h table)) f
 
       -- of a copy into a buffer of the table's length
       module _ (o : List ℕ) (m : length o ≡ h .size) {c : Copied} {b : List ℕ} (q : outcome c b ≡ copiedSlice s o) where
-        abbrev n : ℕ
-        n = layoutOf h .size
+        abbrev fault : ℕ → Outcome Copied (List ℕ)
+        fault place = outcome (copied.FaultAt place) o
 
-        copied-is : (x : Checked) → checkedIn h table ≡ x → outcome c b ≡ copiedAfter h table o x
-        unfolding copiedSlice copiedIn
-        copied-is x f = q ∙ ap (copiedBy s o) e ∙ ap (copiedAfter h table o) f
+        copied-is : (x : Lowest) → faultIn h table ≡ x → outcome c b ≡ faultOr fault (copiedIn o h table) x
+        unfolding copiedSlice
+        copied-is x f =
+            q ∙ ap (readBy s (outcome copied.BadTrailer o) (unlessFault fault (copiedIn o))) e ∙ ap (faultOr fault (copiedIn o h table)) f
 
-        copied-all : checkedIn h table ≡ Passes → outcome c b ≡ outcome copied.Done (veiled n table)
-        copied-all f = copied-is Passes f ∙ cond-true _ _ (eq-eqb _ _ (m ∙ sym (length-table s e)))
-
-        sent-is : (x : Checked) → checkedIn h table ≡ x → sentOf s ≡ copyUnless x (veiled n table) (verdict s)
-        sent-is x f = sent-by (Good h) e ∙ ap (λ (z : Checked). copyUnless z (veiled n table) (verdict s)) f
+        copied-all : faultIn h table ≡ Nowhere → outcome c b ≡ outcome copied.Done (veiled (layoutOf (h .board) .size) table)
+        unfolding copiedIn
+        copied-all f = copied-is Nowhere f ∙ cond-true _ _ (eq-eqb _ _ (m ∙ sym (length-table s e)))
 
         -- past an `else` of `Done`, whose tag is 0
         pub sent-refused : OneOf (1 ∷ 2 ∷ 3 ∷ []) (tagOf the-type c) → (sentOf s ≡ wordsAlone (verdict s)) × (b ≡ o)
-        sent-refused k = go (checkedIn h table) refl
+        sent-refused k = go (faultIn h table) refl
           where
-            go : (x : Checked) → checkedIn h table ≡ x → (sentOf s ≡ wordsAlone (verdict s)) × (b ≡ o)
-            go Passes f = not-done c (both _ (copied-all f) refl .0) k
-            go BadTrailer f = (sent-is BadTrailer f, both _ (copied-is BadTrailer f) refl .1)
-            go (FaultAt place) f = (sent-is (FaultAt place) f, both _ (copied-is (FaultAt place) f) refl .1)
+            go : (x : Lowest) → faultIn h table ≡ x → (sentOf s ≡ wordsAlone (verdict s)) × (b ≡ o)
+            go Nowhere f = not-done c (both _ (copied-all f) refl .0) k
+            go (At place) f = (sent-is (At place) f, both _ (copied-is (At place) f) refl .1)
 
         pub sent-done : c ≡ copied.Done → (sentOf s ≡ copyAlone b) × (length b ≡ h .size)
-        unfolding layoutOf
-        sent-done k = go (checkedIn h table) refl
+        sent-done k = go (faultIn h table) refl
           where
-            go : (x : Checked) → checkedIn h table ≡ x → (sentOf s ≡ copyAlone b) × (length b ≡ h .size)
-            go Passes f =
-                let v : b ≡ veiled n table = both _ (copied-all f) refl .1 in
-                let long = length-veiled n table (omega (arith, trailer-sized s e .full)) in
-                (rw v (sent-is Passes f), rw v (long ∙ length-table s e))
-            go BadTrailer f = let refused = both _ (copied-is BadTrailer f) refl .0 in clash cc
-            go (FaultAt place) f = let refused = both _ (copied-is (FaultAt place) f) refl .0 in clash cc
+            go : (x : Lowest) → faultIn h table ≡ x → (sentOf s ≡ copyAlone b) × (length b ≡ h .size)
+            go Nowhere f =
+                let v : b ≡ veiled (layoutOf (h .board) .size) table = both _ (copied-all f) refl .1 in
+                let long = length-veiled (layoutOf (h .board) .size) table (slots-inside (trailer-sized s e)) in
+                (rw v (sent-is Nowhere f), rw v (long ∙ length-table s e))
+            go (At place) f = let refused = both _ (copied-is (At place) f) refl .0 in clash cc
 
 -- ---- both laid into buffers
 

@@ -1,18 +1,15 @@
 -- What the listing program prints, for any input (document 01, "The listing program"), and the one line of the check.
 -- Assumes nothing.
-use Prim.Native.Nat.{ℕ, _+_, _*_, _-_}
+use Prim.Native.Nat.{ℕ, _+_, _*_}
 use mathlib.Core.Bool.{cond}
-use mathlib.Core.List.{List, [], _++_}
+use mathlib.Core.List.{List, _++_}
 use lib.Dec.{ltb}
 use lib.ListN.{length, drop}
-use Rattle.table.specs.declared.trailer.Headed.{Headed}
-use Rattle.table.specs.declared.trailer.Headed.the-variants.{Good, Bad}
 use Rattle.table.specs.Refusals.{trailer-not-good, wrong-length, check-failed}
-use Rattle.table.specs.Trailer.{trailerOf}
-use Rattle.router.specs.Outcome.{Outcome, outcome}
+use Rattle.table.specs.Calls.{Outcome, outcome}
 use Rattle.survey.specs.declared.checking.Checked.{Checked}
 use Rattle.survey.specs.declared.checking.Checked.the-variants.{Passes, BadTrailer, FaultAt}
-use Rattle.survey.specs.Check.{checkedSlice}
+use Rattle.survey.specs.Check.{onPassing, checkedSlice}
 use Rattle.text.specs.Dec.{dec}
 use Rattle.text.specs.Text.{text}
 use Rattle.listing.specs.declared.answering.Listed.{Listed}
@@ -36,24 +33,13 @@ verdictLine Passes = text "passes\n"
 verdictLine BadTrailer = refusalLine trailer-not-good
 verdictLine (FaultAt place) = faultLine place
 
--- a text, unless the check names a fault
-abbrev pub unlessRefused : Checked → List ℕ → List ℕ
-unlessRefused Passes t = t
-unlessRefused BadTrailer t = verdictLine BadTrailer
-unlessRefused (FaultAt place) t = verdictLine (FaultAt place)
-
 -- a text, unless the input is too long
 abbrev pub unlessLong : List ℕ → List ℕ → List ℕ
 unlessLong s t = cond (ltb most (length s)) (refusalLine wrong-length) t
 
--- the lines of the table that ends a slice; without a good trailer the check has refused
-abbrev pub linesBy : List ℕ → Headed → List ℕ
-linesBy s Bad = []
-linesBy s (Good h) = tableLines h (drop (length s - h .size) s)
-
 -- all that is printed of s
 unfoldable pub listing : List ℕ → List ℕ
-listing s = unlessLong s (unlessRefused (checkedSlice s) (linesBy s (trailerOf s)))
+listing s = unlessLong s (onPassing s (refusalLine trailer-not-good) faultLine tableLines)
 
 -- the one line that tells whether s passes
 unfoldable pub verdict : List ℕ → List ℕ

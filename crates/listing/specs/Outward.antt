@@ -1,20 +1,16 @@
 -- What the program `outward` writes, for any input: the table's copy for outsiders (document 01, "Outward copy") to standard output; or nothing
 -- there, and to standard error why the table is refused, in the words of the check's line. An input is too long as for the listing.
 -- Assumes nothing.
-use Prim.Native.Nat.{ℕ, _-_}
+use Prim.Native.Nat.{ℕ}
 use mathlib.Core.Bool.{cond, _||_}
 use mathlib.Core.List.{List, [], _++_}
 use lib.Dec.{ltb}
 use lib.ListN.{length, drop}
-use Rattle.table.specs.declared.trailer.Headed.{Headed}
-use Rattle.table.specs.declared.trailer.Headed.the-variants.{Good, Bad}
+use Rattle.table.specs.declared.trailer.Head.{Head}
 use Rattle.table.specs.Refusals.{wrong-length}
-use Rattle.table.specs.Trailer.{trailerOf}
 use Rattle.table.specs.Layout.{layoutOf}
-use Rattle.router.specs.Outcome.{Outcome, outcome}
-use Rattle.survey.specs.declared.checking.Checked.{Checked}
-use Rattle.survey.specs.declared.checking.Checked.the-variants.{Passes, BadTrailer, FaultAt}
-use Rattle.survey.specs.Check.{checkedSlice}
+use Rattle.table.specs.Calls.{Outcome, outcome}
+use Rattle.survey.specs.Check.{onPassing}
 use Rattle.survey.specs.Copy.{veiled}
 use Rattle.listing.specs.declared.sending.Sent.{Sent}
 use Rattle.listing.specs.Output.{most, verdict, lineRoom}
@@ -30,20 +26,19 @@ copyAlone t = record { copy = t; words = [] }
 abbrev pub wordsAlone : List ℕ → Sending
 wordsAlone t = record { copy = []; words = t }
 
--- a copy, unless the check names a fault
-abbrev pub copyUnless : Checked → List ℕ → List ℕ → Sending
-copyUnless Passes copy words = copyAlone copy
-copyUnless BadTrailer copy words = wordsAlone words
-copyUnless (FaultAt place) copy words = wordsAlone words
+-- of a table with a fault at a place: no copy, and the words for that
+abbrev pub withheld : List ℕ → ℕ → Sending
+withheld words place = wordsAlone words
 
--- the table that ends a slice with every payload zero; without a good trailer the check has refused
-abbrev pub copyBy : List ℕ → Headed → List ℕ
-copyBy s Bad = []
-copyBy s (Good h) = veiled (layoutOf h .size) (drop (length s - h .size) s)
+-- of a table that passes: every payload zero
+abbrev pub copyOf : Head → List ℕ → Sending
+copyOf h t = copyAlone (veiled (layoutOf (h .board) .size) t)
 
 -- all that is sent of s
 unfoldable pub sentOf : List ℕ → Sending
-sentOf s = cond (ltb most (length s)) (wordsAlone (verdict s)) (copyUnless (checkedSlice s) (copyBy s (trailerOf s)) (verdict s))
+sentOf s =
+    cond (ltb most (length s)) (wordsAlone (verdict s))
+    (onPassing s (wordsAlone (verdict s)) (withheld (verdict s)) copyOf)
 
 -- the longest table
 abbrev pub copyRoom : ℕ

@@ -1,4 +1,5 @@
 // The two calls: the whole listing, and the one line of the check.
+use network::Lowest;
 use survey::checking::Checked;
 use table::trailer::Head;
 use table::trailer::Headed;
@@ -7,11 +8,11 @@ ghost use Prim.Native.Nat.{_≤_};
 ghost use lib.ListN.{length, take};
 ghost use Rattle.table.specs.Refusals.{wrong-length};
 ghost use Rattle.table.specs.Trailer.{Sized};
-ghost use Rattle.router.specs.Outcome.{outcome};
-ghost use Rattle.survey.specs.Check.{checkedIn};
+ghost use Rattle.table.specs.Calls.{outcome};
+ghost use Rattle.survey.specs.Check.{unlessFault};
 ghost use Rattle.text.specs.Put.{Fits, Wrote};
 ghost use Rattle.listing.specs.Lines.{tableLines};
-ghost use Rattle.listing.specs.Output.{refusalLine, faultLine, verdictLine, unlessRefused, listing, verdict, listed, listedInto, verdictInto};
+ghost use Rattle.listing.specs.Output.{refusalLine, faultLine, verdictLine, listing, verdict, listed, listedInto, verdictInto};
 
 // The longest input that is read.
 pub const MOST: usize = 65536;
@@ -56,17 +57,17 @@ fn put_verdict(buf: &mut [u8], at: usize, c: Checked) -> usize
     }
 }
 
+// The fault that the check names, or the lines of a table that passes.
 fn put_checked(buf: &mut [u8], at: usize, t: &[u8], h: Head) -> usize
-    requires { ⌜ Sized h (now t) ⌝ }
+    requires { ⌜ Sized (h .board) (now t) ⌝ }
     requires { ⌜ h .delivered ≤ h .taken ⌝ }
-    requires { ⌜ Fits (now buf) at (unlessRefused (checkedIn h (now t)) (tableLines h (now t))) ⌝ }
-    ensures { λ r. ⌜ Wrote (now (buf .entry)) at (unlessRefused (checkedIn h (now (t .entry))) (tableLines h (now (t .entry)))) (now (buf .exit)) r ⌝ }
+    requires { ⌜ Fits (now buf) at (unlessFault faultLine tableLines h (now t)) ⌝ }
+    ensures { λ r. ⌜ Wrote (now (buf .entry)) at (unlessFault faultLine tableLines h (now (t .entry))) (now (buf .exit)) r ⌝ }
 {
-    let c = survey::checking::check_table(t, h);
-    let Checked::Passes = c else {
-        return put_verdict(buf, at, c);
+    let Lowest::At(place) = survey::checking::first_fault(t, h) else {
+        return crate::writing::put_table(buf, at, t, h);
     };
-    crate::writing::put_table(buf, at, t, h)
+    put_fault(buf, at, place as u32)
 }
 
 fn put_listing(buf: &mut [u8], at: usize, s: &[u8]) -> usize

@@ -6,7 +6,7 @@ ghost use Prim.Native.Nat.{_≤_};
 ghost use mathlib.Core.List.{_++_};
 ghost use lib.ListN.{length, take, drop};
 ghost use Rattle.table.specs.Refusals.{wrong-length};
-ghost use Rattle.router.specs.Outcome.{outcome};
+ghost use Rattle.table.specs.Calls.{outcome};
 ghost use Rattle.listing.specs.Output.{most, lineRoom, verdict};
 ghost use Rattle.listing.specs.Outward.{copyRoom, sent, sentOf, laid, sentInto};
 

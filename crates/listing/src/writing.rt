@@ -1,27 +1,29 @@
 // The lines that list a table. Each function puts a text at a place and answers the place past it.
 use network::Kind;
 use network::Place;
+use table::board::Board;
 use table::packets::Fields;
 use table::trailer::Head;
 ghost use mathlib.Core.Path.{_≡_};
 ghost use mathlib.Core.List.{_∷_, [], _++_};
 ghost use Prim.Native.Nat.{_≤_, _<_};
 ghost use Rattle.table.specs.Trailer.{Sized};
-ghost use Rattle.table.specs.Layout.{GoodHead, layoutOf};
+ghost use Rattle.table.specs.Board.{GoodBoard};
+ghost use Rattle.table.specs.Layout.{layoutOf};
 ghost use Rattle.table.specs.Packets.{packetBy, itemBy};
-ghost use Rattle.survey.specs.declared.checking.Checked.the-variants.{Passes};
-ghost use Rattle.survey.specs.Check.{checkedIn};
+ghost use Rattle.network.specs.declared.Lowest.the-variants.{Nowhere};
+ghost use Rattle.survey.specs.Check.{faultIn};
 ghost use Rattle.text.specs.Put.{Fits, Wrote};
 ghost use Rattle.listing.specs.Lines.{gridText, countsText, headLine, letter, nodeText, placeText, packetText, slotLine, rowAt, rowsBelow, lastLine, tableLines};
 
-fn put_grid(buf: &mut [u8], at: usize, h: Head) -> usize
-    requires { ⌜ GoodHead h ⌝ }
-    requires { ⌜ Fits (now buf) at (gridText h) ⌝ }
-    ensures { λ r. ⌜ Wrote (now (buf .entry)) at (gridText h) (now (buf .exit)) r ⌝ }
+fn put_grid(buf: &mut [u8], at: usize, board: Board) -> usize
+    requires { ⌜ GoodBoard board ⌝ }
+    requires { ⌜ Fits (now buf) at (gridText board) ⌝ }
+    ensures { λ r. ⌜ Wrote (now (buf .entry)) at (gridText board) (now (buf .exit)) r ⌝ }
 {
-    let a = text::put_word_decimal(buf, at, b"grid ", h.width as u32);
-    let b = text::put_word_decimal(buf, a, b" ", h.height as u32);
-    text::put_word_decimal(buf, b, b" depth ", h.depth as u32)
+    let a = text::put_word_decimal(buf, at, b"grid ", board.width as u32);
+    let b = text::put_word_decimal(buf, a, b" ", board.height as u32);
+    text::put_word_decimal(buf, b, b" depth ", board.depth as u32)
 }
 
 fn put_counts(buf: &mut [u8], at: usize, h: Head) -> usize
@@ -33,11 +35,12 @@ fn put_counts(buf: &mut [u8], at: usize, h: Head) -> usize
 }
 
 fn put_head(buf: &mut [u8], at: usize, h: Head) -> usize
-    requires { ⌜ GoodHead h ⌝ }
+    requires { ⌜ GoodBoard (h .board) ⌝ }
     requires { ⌜ Fits (now buf) at (headLine h) ⌝ }
     ensures { λ r. ⌜ Wrote (now (buf .entry)) at (headLine h) (now (buf .exit)) r ⌝ }
 {
-    let a = put_grid(buf, at, h);
+    let board = h.board;
+    let a = put_grid(buf, at, board);
     let b = put_counts(buf, a, h);
     text::put_byte(buf, b, b'\n')
 }
@@ -52,79 +55,87 @@ fn letter_of(kind: Kind) -> u8
     }
 }
 
-fn put_node(buf: &mut [u8], at: usize, n: u8) -> usize
-    requires { ⌜ Fits (now buf) at (nodeText n) ⌝ }
-    ensures { λ r. ⌜ Wrote (now (buf .entry)) at (nodeText n) (now (buf .exit)) r ⌝ }
+fn put_node(buf: &mut [u8], at: usize, board: Board, n: u8) -> usize
+    requires { ⌜ Fits (now buf) at (nodeText board n) ⌝ }
+    ensures { λ r. ⌜ Wrote (now (buf .entry)) at (nodeText board n) (now (buf .exit)) r ⌝ }
 {
-    let a = text::put_decimal(buf, at, (n % 16) as u32);
+    let c = table::board::coordinates_of(board, n);
+    let a = text::put_decimal(buf, at, c.x as u32);
     let b = text::put_byte(buf, a, b',');
-    text::put_decimal(buf, b, (n / 16) as u32)
+    text::put_decimal(buf, b, c.y as u32)
 }
 
 // A word, and a node after it.
-fn put_word_node(buf: &mut [u8], at: usize, word: &[u8], n: u8) -> usize
-    requires { ⌜ Fits (now buf) at (now word ++ nodeText n) ⌝ }
-    ensures { λ r. ⌜ Wrote (now (buf .entry)) at (now (word .entry) ++ nodeText n) (now (buf .exit)) r ⌝ }
+fn put_word_node(buf: &mut [u8], at: usize, word: &[u8], board: Board, n: u8) -> usize
+    requires { ⌜ Fits (now buf) at (now word ++ nodeText board n) ⌝ }
+    ensures { λ r. ⌜ Wrote (now (buf .entry)) at (now (word .entry) ++ nodeText board n) (now (buf .exit)) r ⌝ }
 {
     let a = text::put_bytes(buf, at, word);
-    put_node(buf, a, n)
+    put_node(buf, a, board, n)
 }
 
-fn put_place(buf: &mut [u8], at: usize, slot: u32, here: Place) -> usize
-    requires { ⌜ Fits (now buf) at (placeText slot here) ⌝ }
-    ensures { λ r. ⌜ Wrote (now (buf .entry)) at (placeText slot here) (now (buf .exit)) r ⌝ }
+fn put_place(buf: &mut [u8], at: usize, board: Board, slot: u32, here: Place) -> usize
+    requires { ⌜ Fits (now buf) at (placeText board slot here) ⌝ }
+    ensures { λ r. ⌜ Wrote (now (buf .entry)) at (placeText board slot here) (now (buf .exit)) r ⌝ }
 {
     let kind = here.kind;
     let a = text::put_decimal(buf, at, slot);
     let b = text::put_byte(buf, a, b' ');
     let c = text::put_byte(buf, b, letter_of(kind));
-    put_word_node(buf, c, b" ", here.node)
+    put_word_node(buf, c, b" ", board, here.node)
 }
 
-fn put_packet(buf: &mut [u8], at: usize, f: Fields) -> usize
-    requires { ⌜ Fits (now buf) at (packetText (packetBy f)) ⌝ }
-    ensures { λ r. ⌜ Wrote (now (buf .entry)) at (packetText (packetBy f)) (now (buf .exit)) r ⌝ }
+fn put_packet(buf: &mut [u8], at: usize, board: Board, f: Fields) -> usize
+    requires { ⌜ Fits (now buf) at (packetText board (packetBy f)) ⌝ }
+    ensures { λ r. ⌜ Wrote (now (buf .entry)) at (packetText board (packetBy f)) (now (buf .exit)) r ⌝ }
 {
-    let a = put_word_node(buf, at, b" from ", f.source);
-    let b = put_word_node(buf, a, b" to ", f.destination);
+    let a = put_word_node(buf, at, b" from ", board, f.source);
+    let b = put_word_node(buf, a, b" to ", board, f.destination);
     let c = text::put_word_decimal(buf, b, b" hops ", f.hops as u32);
     text::put_word_decimal(buf, c, b" serial ", f.serial)
 }
 
-fn put_slot_line(buf: &mut [u8], at: usize, slot: u32, here: Place, f: Fields) -> usize
-    requires { ⌜ Fits (now buf) at (slotLine slot (itemBy here f)) ⌝ }
-    ensures { λ r. ⌜ Wrote (now (buf .entry)) at (slotLine slot (itemBy here f)) (now (buf .exit)) r ⌝ }
+fn put_slot_line(
+    buf: &mut [u8],
+    at: usize,
+    board: Board,
+    slot: u32,
+    here: Place,
+    f: Fields,
+) -> usize
+    requires { ⌜ Fits (now buf) at (slotLine board slot (itemBy here f)) ⌝ }
+    ensures { λ r. ⌜ Wrote (now (buf .entry)) at (slotLine board slot (itemBy here f)) (now (buf .exit)) r ⌝ }
 {
-    let a = put_place(buf, at, slot, here);
-    let b = put_packet(buf, a, f);
+    let a = put_place(buf, at, board, slot, here);
+    let b = put_packet(buf, a, board, f);
     text::put_byte(buf, b, b'\n')
 }
 
 // The line of slot `k`, or nothing where it is empty.
-fn put_row(buf: &mut [u8], at: usize, t: &[u8], h: Head, k: usize) -> usize
-    requires { ⌜ Sized h (now t) ⌝ }
-    requires { ⌜ k < layoutOf h .size ⌝ }
-    requires { ⌜ Fits (now buf) at (rowAt h (now t) k) ⌝ }
-    ensures { λ r. ⌜ Wrote (now (buf .entry)) at (rowAt h (now (t .entry)) k) (now (buf .exit)) r ⌝ }
+fn put_row(buf: &mut [u8], at: usize, t: &[u8], board: Board, k: usize) -> usize
+    requires { ⌜ Sized board (now t) ⌝ }
+    requires { ⌜ k < layoutOf board .size ⌝ }
+    requires { ⌜ Fits (now buf) at (rowAt board (now t) k) ⌝ }
+    ensures { λ r. ⌜ Wrote (now (buf .entry)) at (rowAt board (now (t .entry)) k) (now (buf .exit)) r ⌝ }
 {
     if slots::slot_empty(t, k) {
         return at;
     }
-    let here = table::layout::place_of(h, k);
+    let here = table::layout::place_of(board, k);
     let f = table::packets::read_fields(t, k);
-    put_slot_line(buf, at, k as u32, here, f)
+    put_slot_line(buf, at, board, k as u32, here, f)
 }
 
-fn put_rows(buf: &mut [u8], at: usize, t: &[u8], h: Head) -> usize
-    requires { ⌜ Sized h (now t) ⌝ }
-    requires { ⌜ Fits (now buf) at (rowsBelow h (now t) (layoutOf h .size)) ⌝ }
-    ensures { λ r. ⌜ Wrote (now (buf .entry)) at (rowsBelow h (now (t .entry)) (layoutOf h .size)) (now (buf .exit)) r ⌝ }
+fn put_rows(buf: &mut [u8], at: usize, t: &[u8], board: Board) -> usize
+    requires { ⌜ Sized board (now t) ⌝ }
+    requires { ⌜ Fits (now buf) at (rowsBelow board (now t) (layoutOf board .size)) ⌝ }
+    ensures { λ r. ⌜ Wrote (now (buf .entry)) at (rowsBelow board (now (t .entry)) (layoutOf board .size)) (now (buf .exit)) r ⌝ }
 {
-    let n = table::layout::slots_of(h);
+    let n = table::layout::slots_of(board);
     let mut end = at;
     let mut k = 0;
     while k < n {
-        end = put_row(buf, end, t, h, k);
+        end = put_row(buf, end, t, board, k);
         k += 1;
     }
     end
@@ -140,13 +151,14 @@ fn put_last(buf: &mut [u8], at: usize, held: u32) -> usize
 
 // A table that passes the check holds as many packets as are taken in and not delivered.
 pub fn put_table(buf: &mut [u8], at: usize, t: &[u8], h: Head) -> usize
-    requires { ⌜ Sized h (now t) ⌝ }
+    requires { ⌜ Sized (h .board) (now t) ⌝ }
     requires { ⌜ h .delivered ≤ h .taken ⌝ }
-    requires { ⌜ checkedIn h (now t) ≡ Passes ⌝ }
+    requires { ⌜ faultIn h (now t) ≡ Nowhere ⌝ }
     requires { ⌜ Fits (now buf) at (tableLines h (now t)) ⌝ }
     ensures { λ r. ⌜ Wrote (now (buf .entry)) at (tableLines h (now (t .entry))) (now (buf .exit)) r ⌝ }
 {
+    let board = h.board;
     let a = put_head(buf, at, h);
-    let b = put_rows(buf, a, t, h);
+    let b = put_rows(buf, a, t, board);
     put_last(buf, b, h.taken - h.delivered)
 }

@@ -4,6 +4,7 @@ use Prim.Native.Nat.{ℕ, zero, suc, _+_}
 use native.Mathlib.Numerals.{unary-clauses}
 use native.Mathlib.Omega.{arith}
 use mathlib.Core.Path.{_≡_, refl}
+use mathlib.Core.Logic.{_⊎_, inl, inr}
 use mathlib.Core.Bool.{Bool, true, false, cond}
 use borrow.Author.Tests.{le-leb, lt-leb}
 use Rattle.network.specs.declared.Place.{Place}
@@ -64,3 +65,12 @@ deliver-code =
 pub out-code : (p : Place) (d c : ℕ) → ruled p d c ≡ Out → c ≡ 7
 unfolding ruled
 out-code p d c e = deliver-code c (out-step (stepOf c) (p .node) (signsOf (p .node) d) (offers (stepOf c) (signsOf (p .node) d) (p .kind)) e)
+
+-- and it leads nowhere else
+pub delivers : (p : Place) (d : ℕ) → (ruled p d 7 ≡ Out) ⊎ (ruled p d 7 ≡ NotOffered)
+unfolding ruled stepOf
+delivers p d = go (offers Deliver (signsOf (p .node) d) (p .kind))
+  where
+    go : (b : Bool) → (cond b Out NotOffered ≡ Out) ⊎ (cond b Out NotOffered ≡ NotOffered)
+    go true = inl refl
+    go false = inr refl

@@ -2,16 +2,25 @@
 -- Assumes nothing.
 use Prim.Native.Nat.{ℕ}
 use mathlib.Core.Path.{refl}
+use lib.Dec.{leb}
+use borrow.Author.Tests.{leb-true}
 use Rattle.network.specs.declared.Kind.the-variants.{Waiting, B}
-use Rattle.network.specs.Net.{at, NetLaws}
-use Rattle.mesh.specs.Mesh.{mesh}
-use Rattle.mesh.proofs.Metric.{triangle}
+use Rattle.network.specs.Net.{NetLaws}
+use Rattle.network.proofs.Tests.{and-r}
+use Rattle.mesh.specs.Mesh.{mesh, lastCode}
+use Rattle.mesh.proofs.Metric.{distance-self, triangle}
 use Rattle.mesh.proofs.Hops.{hop-on-grid, hop-one, hop-nearer, hop-settled, hop-queued, turn-down, turn-settled, out-there, unknown-never}
+use Rattle.mesh.proofs.Codes.{out-code, delivers}
 use Rattle.mesh.proofs.Onward.{waiting-goes, A-goes, B-goes}
 
 pub mesh-laws : (width height : ℕ) → NetLaws (mesh width height)
 mesh-laws width height = record {
+  self = distance-self;
   triangle = triangle;
+  known-last = λ c e. leb-true c lastCode (and-r (leb 1 c) (leb c lastCode) e);
+  unknown-never = unknown-never;
+  out-code = out-code;
+  delivers = delivers;
   rule = λ h d gh gd. record {
     hop-valid = λ k c n e. hop-on-grid h d k c n e width height gh gd;
     hop-one = hop-one h d;
@@ -21,7 +30,6 @@ mesh-laws width height = record {
     turn-down = turn-down h d;
     turn-settled = λ k c e. turn-settled h d k B c e refl;
     out-there = out-there h d;
-    unknown-never = λ k c. unknown-never (at h k) d c;
     waiting-goes = waiting-goes h d;
     A-goes = A-goes h d;
     B-goes = B-goes h d;

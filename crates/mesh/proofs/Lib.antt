@@ -7,3 +7,4 @@ pub mod Codes
 pub mod Onward
 pub mod Instance
 pub mod Source003
+pub mod Determined

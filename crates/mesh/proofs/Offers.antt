@@ -13,7 +13,7 @@ use Rattle.mesh.specs.declared.Step.{Step}
 use Rattle.mesh.specs.declared.Step.the-variants.{Enter, Right, Left, Up, Down, Change, Deliver, Unknown}
 use Rattle.mesh.specs.declared.Signs.{Signs}
 use Rattle.mesh.specs.Grid.{xOf, yOf}
-use Rattle.mesh.specs.Rule.{signsOf, settledBy, arrivedBy, offers, Room}
+use Rattle.mesh.specs.Rule.{signsOf, settledBy, arrivedBy, offers, Addressable}
 use Rattle.mesh.proofs.Coordinates.{rises-is, falls-is}
 
 -- the signs by plain comparisons
@@ -105,7 +105,7 @@ module _ (h d : ℕ) where
   offered-toward Unknown B e = false≢true e
 
   -- an offered hop's target is an address byte
-  pub toward-room : d < 256 → h < 256 → (step : Step) → Toward step h d → Room step h
+  pub toward-room : d < 256 → h < 256 → (step : Step) → Toward step h d → Addressable step h
   toward-room hd hh Enter t = tt
   toward-room hd hh Right t = omega arith
   toward-room hd hh Left t = omega arith

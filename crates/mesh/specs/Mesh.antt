@@ -7,8 +7,11 @@ use Rattle.network.specs.Net.{Net}
 use Rattle.mesh.specs.Grid.{xOf, yOf, onGrid, distanceOf}
 use Rattle.mesh.specs.Rule.{signsOf, settledBy, ruled}
 
+abbrev pub lastCode : ℕ
+lastCode = 7
+
 abbrev pub isCode : ℕ → Bool
-isCode code = leb 1 code && leb code 7
+isCode code = leb 1 code && leb code lastCode
 
 -- level: source 003, section IV, "the level of (x, y) is x + y"
 abbrev pub mesh : ℕ → ℕ → Net
@@ -18,5 +21,6 @@ mesh width height = record {
   level = λ n. xOf n + yOf n;
   settled = λ here destination. settledBy (signsOf here destination);
   known = isCode;
+  last = lastCode;
   rule = ruled;
 }

@@ -72,15 +72,15 @@ leads Deliver n s = Out
 leads Unknown n s = NotOffered
 
 -- a hop's target is an address byte
-abbrev pub Room : Step → ℕ → Type 0
-Room Enter n = Unit {0}
-Room Right n = n + 1 < 256
-Room Left n = 1 ≤ n
-Room Up n = n + 16 < 256
-Room Down n = 16 ≤ n
-Room Change n = Unit {0}
-Room Deliver n = Unit {0}
-Room Unknown n = Unit {0}
+abbrev pub Addressable : Step → ℕ → Type 0
+Addressable Enter n = Unit {0}
+Addressable Right n = n + 1 < 256
+Addressable Left n = 1 ≤ n
+Addressable Up n = n + 16 < 256
+Addressable Down n = 16 ≤ n
+Addressable Change n = Unit {0}
+Addressable Deliver n = Unit {0}
+Addressable Unknown n = Unit {0}
 
 abbrev pub ruledBy : Step → Place → Signs → Lead
 ruledBy step p s = cond (offers step s (p .kind)) (leads step (p .node) s) NotOffered

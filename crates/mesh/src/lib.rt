@@ -4,7 +4,7 @@ use network::Lead;
 use network::Place;
 ghost use mathlib.Core.Path.{_≡_};
 ghost use Rattle.mesh.specs.Grid.{onGrid, distanceOf};
-ghost use Rattle.mesh.specs.Rule.{stepOf, signsOf, settledBy, inEach, offers, Room, leads, ruled};
+ghost use Rattle.mesh.specs.Rule.{stepOf, signsOf, settledBy, inEach, offers, Addressable, leads, ruled};
 ghost use Rattle.mesh.specs.Mesh.{isCode};
 
 mod axis;
@@ -52,6 +52,9 @@ pub fn distance(a: u8, b: u8) -> u32
         + axis::magnitude(axis::difference(a / 16, b / 16))
 }
 
+// The highest code.
+pub const LAST_CODE: u32 = 7;
+
 // Is there such a code?
 pub fn is_code(code: u32) -> bool
     ensures { λ r. ⌜ r ≡ isCode code ⌝ }
@@ -59,7 +62,7 @@ pub fn is_code(code: u32) -> bool
     if code < 1 {
         return false;
     }
-    code <= 7
+    code <= LAST_CODE
 }
 
 fn step_of(code: u32) -> Step
@@ -136,7 +139,7 @@ fn offered(step: Step, s: Signs, kind: Kind) -> bool
 
 // Document 01's second column. An offered hop goes toward the destination, so the address has room for it.
 fn lead(step: Step, node: u8, s: Signs) -> Lead
-    requires { ⌜ Room step node ⌝ }
+    requires { ⌜ Addressable step node ⌝ }
     ensures { λ r. ⌜ r ≡ leads step node s ⌝ }
 {
     let right = s.right;

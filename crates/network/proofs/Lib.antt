@@ -1,4 +1,5 @@
 pub mod Tests
+pub mod SearchLaws
 pub mod Lists
 pub mod Course
 pub mod Kept

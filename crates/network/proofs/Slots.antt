@@ -1,13 +1,12 @@
 -- A table's slots and its packets in places: one move of a packet between slots is one step of a packet, so a table that moves so is a machine.
 -- Assumes nothing.
-use mathlib.Core.Path.{_≡_, refl, sym, subst, _∙_}
-use mathlib.Core.Bool.{true, cond}
+use mathlib.Core.Path.{_≡_, refl, sym, ap, subst, _∙_}
+use mathlib.Core.Bool.{true}
 use mathlib.Core.Logic.{_≢_}
 use mathlib.Core.List.{List, _∷_, List·Memᴰ, List·Memᴰ·head, List·Memᴰ·eq-of-singleton, List·Permᴰ}
-use Prim.Native.Nat.{ℕ, _+_, _<_}
-use native.Mathlib.Decide.{ℕ-discrete}
-use lib.Dec.{eqb}
-use borrow.Author.Tests.{eq-eqb, ne-eqb}
+use Prim.Native.Nat.{ℕ, suc, _+_, _<_}
+use native.Mathlib.Omega.{arith}
+use native.Mathlib.Nat.{add-zero}
 use Rattle.network.specs.declared.Place.{Place}
 use Rattle.network.specs.Net.{Net, NetLaws, at}
 use Rattle.network.specs.Packet.{Packet, Item, Delivery, Good}
@@ -15,30 +14,49 @@ use Rattle.network.specs.Contents.{Passing}
 use Rattle.network.specs.View.{Slot, empty, held, Layout, LayoutLaws, View, itemAt, seen, itemsOf, contents}
 use Rattle.network.specs.Run.{Answer, delivered, trace}
 use Rattle.network.specs.Machine.{Stepped, Left, Open, leaves, hops, turns, Vacant, Machine}
-use Rattle.network.specs.Table.{Carried, HandedOut, HasRoom, TableMachine}
+use Rattle.network.specs.Table.{Vacated, Entered, Carried, HandedOut, HasRoom, TableMachine}
 use Rattle.network.specs.Drain.{Drains}
-use Rattle.network.proofs.Tests.{clash}
-use Rattle.network.proofs.Lists.{take-out, collect-mem, mem-collect, all-mem}
+use Rattle.network.proofs.Lists.{take-out, close-up, collect-mem, mem-collect, all-mem}
 use Rattle.network.proofs.Drain.{drains, still-fit}
 
--- the packet of slot i taken out; or, the other way, come into the empty slot i
-module _ (Y : Layout) (v w : View) (i : ℕ) (p : Packet) (inside : i < Y .size) (was : v .at i ≡ held p) (gone : w .at i ≡ empty)
-    (rest : (k : ℕ) → k < Y .size → k ≢ i → w .at k ≡ v .at k) where
-  pub items-without : List·Permᴰ (itemsOf Y v) (itemAt Y i p ∷ itemsOf Y w)
-  items-without =
-      take-out (λ k. seen Y k (v .at k)) (λ k. seen Y k (w .at k)) i (Y .size) (itemAt Y i p) inside (rw was) (rw gone) (λ k h u. rw (rest k h u))
+-- a slot is seen the same in every slot of its queue
+seen-same : (Y : Layout) (i j : ℕ) (s t : Slot) → Y .placeOf i ≡ Y .placeOf j → s ≡ t → seen Y i s ≡ seen Y j t
+seen-same Y i j empty t e f = rw (← f)
+seen-same Y i j (held p) t e f = rw (← f, e)
 
--- the table with slot i emptied
-emptied : View → ℕ → View
-emptied v i = record { at = λ k. cond (eqb k i) empty (v .at k); taken = v .taken; delivered = v .delivered }
+-- what is seen of the slots when one is left
+module _ (Y : Layout) (v w : View) (i n : ℕ) (c : Vacated Y v w i n) where
+  abbrev before-it : ℕ → List Item
+  before-it k = seen Y k (v .at k)
 
-emptied-there : (v : View) (i : ℕ) → emptied v i .at i ≡ empty
-unfolding emptied
-emptied-there v i = rw (eq-eqb i i refl)
+  abbrev after-it : ℕ → List Item
+  after-it k = seen Y k (w .at k)
 
-emptied-elsewhere : (v : View) (i k : ℕ) → k ≢ i → emptied v i .at k ≡ v .at k
-unfolding emptied
-emptied-elsewhere v i k u = rw (ne-eqb k i u)
+  moved-down : (k : ℕ) → k < n → after-it (i + k) ≡ before-it (i + suc k)
+  moved-down k l =
+      seen-same Y (i + k) (i + suc k) (w .at (i + k)) (v .at (i + suc k)) (c .queue k (omega arith) ∙ sym (c .queue (suc k) l)) (c .down k l)
+
+  -- its packet is gone, and the others are in their places still
+  pub vacated-items : (p : Packet) → v .at i ≡ held p → List·Permᴰ (itemsOf Y v) (itemAt Y i p ∷ itemsOf Y w)
+  vacated-items p was =
+      close-up before-it after-it i n (Y .size) (itemAt Y i p) (c .inside) moved-down (rw (c .last)) (λ k l. rw (c .before k l)) (λ k l u. rw (c .behind k l u)) (rw was)
+
+-- a packet that comes into an empty slot is one more
+pub entered-items : (Y : Layout) (v w : View) (j : ℕ) (q : Packet) → Entered Y v w j q → List·Permᴰ (itemsOf Y w) (itemAt Y j q ∷ itemsOf Y v)
+entered-items Y v w j q c =
+    take-out (λ k. seen Y k (w .at k)) (λ k. seen Y k (v .at k)) j (Y .size) (itemAt Y j q) (c .inside) (rw (c .come)) (rw (c .free))
+    (λ k h u. rw (c .rest k h u))
+
+-- a slot left with nothing else changed
+pub emptied : (Y : Layout) (v w : View) (i : ℕ) → i < Y .size → w .at i ≡ empty → ((k : ℕ) → k < Y .size → k ≢ i → w .at k ≡ v .at k) → Vacated Y v w i 0
+emptied Y v w i inside gone rest = record {
+  inside = omega arith;
+  queue = λ k l. ap (Y .placeOf) (omega arith);
+  down = λ k l. absurd (omega arith);
+  last = rw (add-zero i) gone;
+  before = λ k l. rest k (omega arith) (λ e. omega arith);
+  behind = λ k l u. rest k u (λ e. omega arith);
+}
 
 -- slots as packets in places
 module _ (Y : Layout) (v : View) where
@@ -64,33 +82,26 @@ module _ (Y : Layout) (v : View) where
       go (held q) e =
           absurd (all-mem (λ y. y .place ≡ p → ⊥) (held-mem (Y .first p + 0) q (K .within p 0 g (K .roomy (p .kind))) e) none (K .there p 0 g (K .roomy (p .kind))))
 
+-- whether or not the queue closes up
 module _ (N : Net) (Y : Layout) (v w : View) where
   pub carried-stepped : Carried N Y v w → Stepped N (contents Y v) (contents Y w)
-  carried-stepped c =
-      let i = c .i in
-      let j = c .j in
-      let m = emptied v i in
-      let apart : j ≢ i = λ e. (let f : v .at j ≡ held (c .p) = rw e (c .was) in let z : held (c .p) ≡ empty = sym f ∙ c .free in clash cc) in
-      record {
-        x = itemAt Y i (c .p);
-        y = itemAt Y j (c .q);
-        code = c .code;
-        others = itemsOf Y m;
-        was = items-without Y v m i (c .p) (c .from) (c .was) (emptied-there v i) (λ k h u. emptied-elsewhere v i k u);
-        is = items-without Y w m j (c .q) (c .to) (c .come) (emptied-elsewhere v i j apart ∙ c .free) (λ k h u. elim (ℕ-discrete k i) [
-          | yes e ↦ rw e (emptied-there v i ∙ sym (c .gone))
-          | no e ↦ emptied-elsewhere v i k e ∙ sym (c .rest k h e u)
-        ]);
-        led = c .led;
-        taken = c .taken;
-        delivered = c .delivered;
-      }
+  carried-stepped c = record {
+    x = itemAt Y (c .i) (c .p);
+    y = itemAt Y (c .j) (c .q);
+    code = c .code;
+    others = itemsOf Y (c .between);
+    was = vacated-items Y v (c .between) (c .i) (c .n) (c .vacated) (c .p) (c .was);
+    is = entered-items Y (c .between) w (c .j) (c .q) (c .entered);
+    led = c .led;
+    taken = c .taken;
+    delivered = c .delivered;
+  }
 
   pub handed-left : (d : Delivery) → HandedOut N Y v w d → Left N (contents Y v) (contents Y w) d
   handed-left d c = record {
     x = itemAt Y (c .i) (c .p);
     code = c .code;
-    was = items-without Y v w (c .i) (c .p) (c .from) (c .was) (c .gone) (c .rest);
+    was = vacated-items Y v w (c .i) (c .n) (c .vacated) (c .p) (c .was);
     offered = c .offered;
     given = c .given;
     taken = c .taken;
@@ -113,8 +124,8 @@ module _ (N : Net) (L : NetLaws N) (Y : Layout) (K : LayoutLaws N Y) {S C : Type
 
   table-machine : Machine N (λ s. contents Y (see s)) Fit answer
   table-machine = record {
-    steps = λ s t c f P e. let r = T .carries s t c f P e in (r .0, carried-stepped N Y (see s) (see t) (r .1));
-    gives = λ s t c d f P e. let r = T .hands s t c d f P e in (r .0, handed-left N Y (see s) (see t) d (r .1));
+    steps = T .carries;
+    gives = T .hands;
     goes = λ s f P x code m o.
         let r = slot-of Y (see s) x m in
         T .accepts s f P (r .0) (r .1) code (r .2) (r .3) (subst (λ (z : Item). Open N (HasRoom Y (see s)) z code) (r .4) (open-room (see s) P x code m o));

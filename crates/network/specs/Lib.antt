@@ -7,3 +7,4 @@ pub mod Run
 pub mod Machine
 pub mod Table
 pub mod Drain
+pub mod Search

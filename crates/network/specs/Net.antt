@@ -21,10 +21,15 @@ pub record Net : Type 0 where
   pub level : ℕ → ℕ
   -- B may hold a packet here (first) for that destination (second)
   pub settled : ℕ → ℕ → Bool
-  -- the codes that there are
+  -- the codes that there are, and the highest of them
   pub known : ℕ → Bool
+  pub last : ℕ
   -- the rule of moves: where a code leads a packet from its place, for its destination
   pub rule : Place → ℕ → ℕ → Lead
+
+-- the code of delivery, on every network
+abbrev pub delivery : ℕ
+delivery = 7
 
 -- demand 3's three, two or one
 abbrev pub beside : Kind → ℕ
@@ -44,7 +49,6 @@ pub record RuleLaws (N : Net) (h d : ℕ) : Type 0 where
   pub turn-down : (k l : Kind) (c : ℕ) → N .rule (at h k) d c ≡ Turn l → beside l < beside k
   pub turn-settled : (k : Kind) (c : ℕ) → N .rule (at h k) d c ≡ Turn B → N .settled h d ≡ true
   pub out-there : (k : Kind) (c : ℕ) → N .rule (at h k) d c ≡ Out → h ≡ d
-  pub unknown-never : (k : Kind) (c : ℕ) → N .known c ≡ false → N .rule (at h k) d c ≡ NotOffered
   -- some move is always offered, and leads away from the packets that are in the way
   pub waiting-goes : (c : ℕ) × ((N .rule (at h Waiting) d c ≡ Turn A) ⊎ (N .rule (at h Waiting) d c ≡ Turn B))
   pub A-goes : (c : ℕ)
@@ -52,5 +56,11 @@ pub record RuleLaws (N : Net) (h d : ℕ) : Type 0 where
   pub B-goes : N .settled h d ≡ true → (c : ℕ) × ((N .rule (at h B) d c ≡ Out) ⊎ ((n : ℕ) × (N .rule (at h B) d c ≡ Hop n) × (N .level n < N .level h)))
 
 pub record NetLaws (N : Net) : Type 0 where
+  pub self : (a : ℕ) → N .distance a a ≡ 0
   pub triangle : (a b c : ℕ) → N .distance a c ≤ N .distance a b + N .distance b c
+  -- a code that isn't known is never offered; delivery is the one that leads out, and leads nowhere else
+  pub known-last : (c : ℕ) → N .known c ≡ true → c ≤ N .last
+  pub unknown-never : (p : Place) (d c : ℕ) → N .known c ≡ false → N .rule p d c ≡ NotOffered
+  pub out-code : (p : Place) (d c : ℕ) → N .rule p d c ≡ Out → c ≡ delivery
+  pub delivers : (p : Place) (d : ℕ) → (N .rule p d delivery ≡ Out) ⊎ (N .rule p d delivery ≡ NotOffered)
   pub rule : (h d : ℕ) → N .valid h ≡ true → N .valid d ≡ true → RuleLaws N h d

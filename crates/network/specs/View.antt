@@ -28,6 +28,8 @@ pub record LayoutLaws (N : Net) (Y : Layout) : Type 0 where
   pub within : (p : Place) (j : ℕ) → N .valid (p .node) ≡ true → j < Y .room (p .kind) → Y .first p + j < Y .size
   pub there : (p : Place) (j : ℕ) → N .valid (p .node) ≡ true → j < Y .room (p .kind) → Y .placeOf (Y .first p + j) ≡ p
   pub roomy : (k : Kind) → 0 < Y .room k
+  -- every slot is in the queue of its place
+  pub own : (i : ℕ) → i < Y .size → (j : ℕ) × (j < Y .room (Y .placeOf i .kind)) × (i ≡ Y .first (Y .placeOf i) + j)
 
 -- a table as its slots and its two counts
 pub record View : Type 0 where

@@ -20,3 +20,9 @@ pub enum Lead {
     Out,
     NotOffered,
 }
+
+// The lowest number with a property, if there is one.
+pub enum Lowest {
+    At(usize),
+    Nowhere,
+}

@@ -15,29 +15,37 @@ use Rattle.table.specs.declared.trailer.Head.{Head}
 use Rattle.table.specs.declared.trailer.Headed.{Headed}
 use Rattle.table.specs.declared.trailer.Headed.the-variants.{Good, Bad}
 use Rattle.table.specs.Trailer.{trailerOf, Sized}
+use Rattle.table.specs.Calls.{Outcome, onHeaded}
 use Rattle.table.proofs.RefusalLaws.{accepted-by, refused-by}
-use Rattle.table.proofs.Places.{slot-fits}
+use Rattle.table.proofs.BoardLaws.{slot-fits}
 use Rattle.table.proofs.TrailerLaws.{trailer-sized}
-use Rattle.router.specs.Move.{slotDue}
-use Rattle.router.specs.ReadPayload.{Reading, reading, payloadIn, payloadBy, payloadInSlice}
-use Rattle.router.proofs.MoveLaws.{due-named}
+use Rattle.router.specs.ReadPayload.{Reading, reading, refusal, readIn, readSlice}
+use Rattle.router.specs.Verdicts.{slotDue}
+use Rattle.router.proofs.NamedLaws.{due-named}
+use Rattle.router.proofs.ReadLaws.{read-refused, read-done}
 use Rattle.paneglove.specs.declared.Read.{Read}
 use Rattle.paneglove.specs.Across.{readAcross}
 
-eight-in : (h : Head) (t : List ℕ) (k : ℕ) → Sized h t → payloadIn h t k .number ≡ 0 → length (payloadIn h t k .bytes) ≡ 8
-unfolding payloadIn
+abbrev numberOf : Outcome Reading (List ℕ) → ℕ
+numberOf o = o .answer .number
+
+abbrev lengthOf : Outcome Reading (List ℕ) → ℕ
+lengthOf o = length (o .answer .bytes)
+
+eight-in : (h : Head) (t : List ℕ) (k : ℕ) → Sized (h .board) t → numberOf (readIn h t k) ≡ 0 → lengthOf (readIn h t k) ≡ 8
 eight-in h t k z e = elim (ℕ-discrete (slotDue h t k) 0) [
   | yes d ↦
       let l = length-slotAt t k (slot-fits z k (due-named h t k d .inside)) in
-      ap (λ (r : Reading). length (r .bytes)) (accepted-by _ _ d) ∙ length-part (slotAt t k) 8 8 (omega (arith, l))
-  | no d ↦ absurd (d (sym (ap (λ (r : Reading). r .number) (refused-by _ _ d)) ∙ e))
+      ap lengthOf (read-done h t k d) ∙ length-part (slotAt t k) 8 8 (omega (arith, l))
+  | no d ↦ absurd (d (sym (ap numberOf (read-refused h t k refl d)) ∙ e))
 ]
 
-pub eight : (s : List ℕ) (k : ℕ) → payloadInSlice s k .number ≡ 0 → length (payloadInSlice s k .bytes) ≡ 8
-unfolding payloadInSlice
+pub eight : (s : List ℕ) (k : ℕ) → numberOf (readSlice s k) ≡ 0 → lengthOf (readSlice s k) ≡ 8
+unfolding readSlice
 eight s k e = go (trailerOf s) refl e
   where
-    go : (x : Headed) → trailerOf s ≡ x → payloadBy s k x .number ≡ 0 → length (payloadBy s k x .bytes) ≡ 8
+    go : (x : Headed) → trailerOf s ≡ x → numberOf (onHeaded s refusal (λ h t. readIn h t k) x) ≡ 0
+        → lengthOf (onHeaded s refusal (λ h t. readIn h t k) x) ≡ 8
     go Bad q e = clash (sym e)
     go (Good h) q e = eight-in h (drop (length s - h .size) s) k (trailer-sized s q) e
 

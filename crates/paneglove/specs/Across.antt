@@ -8,9 +8,9 @@ use lib.Dec.{eqb}
 use lib.ListN.{replicate}
 use Rattle.router.specs.declared.taking.Taken as taking
 use Rattle.router.specs.declared.moving.Moved as moving
-use Rattle.router.specs.Outcome.{Outcome, outcome}
-use Rattle.router.specs.TakeIn.{takenInSlice}
-use Rattle.router.specs.Move.{movedInSlice}
+use Rattle.table.specs.Calls.{Outcome, outcome}
+use Rattle.router.specs.TakeIn.{takenSlice}
+use Rattle.router.specs.Move.{movedSlice}
 use Rattle.router.specs.ReadPayload.{Reading}
 use Rattle.survey.specs.Check.{CheckAnswer}
 use Rattle.survey.specs.Find.{FindAnswer}
@@ -34,13 +34,13 @@ abbrev pub takeAcross : taking.Taken → Taken
 takeAcross a = record { number = a .number; slot = a .slot; serial = a .serial }
 
 unfoldable pub takenAcross : List ℕ → ℕ → ℕ → List ℕ → Outcome Taken (List ℕ)
-takenAcross s source destination payload = across takeAcross (takenInSlice s source destination payload)
+takenAcross s source destination payload = across takeAcross (takenSlice s source destination payload)
 
 abbrev pub moveAcross : moving.Moved → Moved
 moveAcross a = record { number = a .number; slot = a .slot; packet = a .packet }
 
 unfoldable pub movedAcross : List ℕ → ℕ → ℕ → Outcome Moved (List ℕ)
-movedAcross s slot code = across moveAcross (movedInSlice s slot code)
+movedAcross s slot code = across moveAcross (movedSlice s slot code)
 
 -- the bytes of the part, or eight zeros for the empty part of a refusal
 abbrev pub readAcross : Reading → Read

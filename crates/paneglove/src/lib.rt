@@ -6,9 +6,9 @@ use survey::copying;
 use survey::finding;
 ghost use mathlib.Core.Path.{_≡_};
 ghost use lib.ListN.{length};
-ghost use Rattle.router.specs.Outcome.{outcome};
-ghost use Rattle.router.specs.Clear.{cleared};
-ghost use Rattle.router.specs.ReadPayload.{payloadInSlice};
+ghost use Rattle.table.specs.Calls.{outcome};
+ghost use Rattle.router.specs.Clear.{asked, clearedSlice};
+ghost use Rattle.router.specs.ReadPayload.{readSlice};
 ghost use Rattle.survey.specs.Check.{checkAnswer, checkedSlice};
 ghost use Rattle.survey.specs.Find.{findAnswer, foundSlice};
 ghost use Rattle.survey.specs.Copy.{copyAnswer};
@@ -68,7 +68,7 @@ pub struct Listed {
 // Refuses by 8 (width, height or depth not accepted), then 9 (the slice is shorter than the table).
 #[no_mangle]
 pub extern "C" fn paneglove_clear(s: &mut [u8], width: u32, height: u32, depth: u32) -> u32
-    ensures { λ r. ⌜ outcome r (now (s .exit)) ≡ cleared (now (s .entry)) width height depth ⌝ }
+    ensures { λ r. ⌜ outcome r (now (s .exit)) ≡ clearedSlice (now (s .entry)) (asked width height depth) ⌝ }
 {
     router::clear(s, width, height, depth)
 }
@@ -125,7 +125,7 @@ fn copy8(p: &[u8]) -> [u8; 8]
 // value.
 #[no_mangle]
 pub extern "C" fn paneglove_read_payload(s: &[u8], slot: u32) -> Read
-    ensures { λ r. ⌜ r ≡ readAcross (payloadInSlice (now (s .entry)) slot) ⌝ }
+    ensures { λ r. ⌜ r ≡ readAcross (readSlice (now (s .entry)) slot .answer) ⌝ }
 {
     let mut number: u32 = 0;
     let part = router::read_payload(s, slot, &mut number);

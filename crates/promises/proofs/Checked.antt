@@ -10,20 +10,24 @@ use Rattle.network.specs.Contents.{Passing}
 use Rattle.network.specs.View.{contents}
 use Rattle.network.specs.Run.{trace}
 use Rattle.network.specs.Drain.{Drains}
+use Rattle.network.specs.declared.Lowest.the-variants.{Nowhere}
 use Rattle.network.proofs.Tests.{clash}
+use Rattle.slots.proofs.ByteLaws.{byte-small}
 use Rattle.table.specs.declared.trailer.Head.{Head}
 use Rattle.table.specs.declared.trailer.Headed.{Headed}
 use Rattle.table.specs.declared.trailer.Headed.the-variants.{Good, Bad}
 use Rattle.table.specs.Trailer.{trailerOf, last16}
-use Rattle.table.proofs.TrailerLaws.{trailer-good, delivering}
+use Rattle.table.proofs.TrailerLaws.{trailer-good}
+use Rattle.table.proofs.CountLaws.{delivering}
 use Rattle.survey.specs.declared.checking.Checked.{Checked}
 use Rattle.survey.specs.declared.checking.Checked.the-variants.{Passes, BadTrailer, FaultAt}
-use Rattle.survey.specs.Check.{checkedBy, checkedIn, checkedSlice, checkAnswer}
+use Rattle.survey.specs.Check.{unlessFault, readBy, faultIn, checkedIn, checkedSlice, checkAnswer}
+use Rattle.survey.proofs.CheckLaws.{passes-fault, fault-passes}
 use Rattle.survey.proofs.Meaning.{passes-means, means-passes}
-use Rattle.promises.specs.Slices.{Bytes, headIn, GoodIn, tableIn, layoutIn, netIn, see, contentsIn}
+use Rattle.calls.specs.Slices.{Bytes, headIn, GoodIn, tableIn, layoutIn, netIn, see, contentsIn}
 use Rattle.promises.proofs.Reading.{table-is, good-in, good-is}
-use Rattle.promises.proofs.Slices.{Proposal, answering, slices-drain, slices-fit}
-use Rattle.promises.proofs.Lent.{byte-small}
+use Rattle.promises.proofs.Proposals.{Proposal, answering}
+use Rattle.promises.proofs.Slices.{slices-drain, slices-fit}
 
 -- a count of four bytes
 pub taken-small : (s : List ℕ) {h : Head} → Bytes s → trailerOf s ≡ Good h → h .taken < 2 ^ 32
@@ -31,25 +35,32 @@ taken-small s b e =
     let at : (i : ℕ) → getD (last16 s) i 0 < 256 = λ i. rw (getD-drop (length s - 16) s i 0) (byte-small s b _) in
     rw (trailer-good s e .read) (omega (arith, at 4, at 5, at 6, at 7))
 
+-- a call that needs a passing table reads the slice by its head
+pub on-head : {A : Type 0} (s : List ℕ) (bad : A) (f : Head → List ℕ → A) → GoodIn s → readBy s bad f (trailerOf s) ≡ f (headIn s) (tableIn s)
+on-head s bad f g = let e = good-is s g in ap (readBy s bad f) e ∙ ap (f (headIn s)) (sym (table-is s e))
+
 -- a slice that passes has a good trailer
 pub passing-good : (s : List ℕ) → checkedSlice s ≡ Passes → GoodIn s
 unfolding checkedSlice
 passing-good s c = go (trailerOf s) refl c
   where
-    go : (t : Headed) → trailerOf s ≡ t → checkedBy s t ≡ Passes → GoodIn s
+    go : (t : Headed) → trailerOf s ≡ t → readBy s BadTrailer (unlessFault FaultAt (λ h t. Passes)) t ≡ Passes → GoodIn s
     go Bad e f = clash cc
     go (Good h) e f = good-in s e
 
 -- under a good trailer the check is that of the table
 pub checked-is : (s : List ℕ) → GoodIn s → checkedSlice s ≡ checkedIn (headIn s) (tableIn s)
-unfolding checkedSlice
-checked-is s g = let e = good-is s g in ap (checkedBy s) e ∙ ap (checkedIn (headIn s)) (sym (table-is s e))
+unfolding checkedSlice checkedIn
+checked-is s g = on-head s BadTrailer (unlessFault FaultAt (λ h t. Passes)) g
+
+pub faultless-in : (s : List ℕ) → checkedSlice s ≡ Passes → faultIn (headIn s) (tableIn s) ≡ Nowhere
+faultless-in s c = passes-fault (headIn s) (tableIn s) (sym (checked-is s (passing-good s c)) ∙ c)
 
 pub passing-in : (s : List ℕ) → checkedSlice s ≡ Passes → Passing (netIn s) (contentsIn s)
-passing-in s c = let g = passing-good s c in passes-means (headIn s) (tableIn s) (g .ranges) (g .counts) (sym (checked-is s g) ∙ c)
+passing-in s c = let g = passing-good s c in passes-means (headIn s) (tableIn s) (g .ranges) (g .counts) (faultless-in s c)
 
 pub passes-in : (s : List ℕ) → GoodIn s → Passing (netIn s) (contentsIn s) → checkedSlice s ≡ Passes
-passes-in s g p = checked-is s g ∙ means-passes (headIn s) (tableIn s) p
+passes-in s g p = checked-is s g ∙ fault-passes (headIn s) (tableIn s) (means-passes (headIn s) (tableIn s) p)
 
 -- the answer's number says it
 pub number-passes : (c : Checked) → checkAnswer c .number ≡ 0 → c ≡ Passes

@@ -7,17 +7,18 @@ use mathlib.Core.List.{List, [], _∷_, _++_, map, map-append}
 use lib.Dec.{eqb}
 use native.Mathlib.Omega.{arith}
 use borrow.Author.Tests.{eqb-false}
+use Rattle.network.specs.Net.{delivery}
 use Rattle.network.specs.Packet.{Delivery}
 use Rattle.network.specs.Run.{Answer, moved, delivered, Trace, after, trace}
 use Rattle.table.specs.Packets.{packetOf}
 use Rattle.router.specs.declared.moving.Moved.{Moved}
 use Rattle.router.specs.declared.taking.Taken.{Taken}
-use Rattle.router.specs.Outcome.{Outcome}
-use Rattle.router.specs.Move.{movedInSlice}
-use Rattle.promises.specs.Slices.{Bytes, placeIn}
-use Rattle.promises.specs.Router.{ours}
-use Rattle.promises.specs.Calls.{Call, clears, takes, moves, reads, checks, finds, copies, Given, leftBy, givenBy, movesBy, course, MovesAlone}
-use Rattle.promises.proofs.Slices.{Proposal, answering}
+use Rattle.table.specs.Calls.{Outcome}
+use Rattle.router.specs.Move.{movedSlice}
+use Rattle.calls.specs.Slices.{Bytes, placeIn}
+use Rattle.calls.specs.Router.{ours}
+use Rattle.calls.specs.Calls.{Look, reads, checks, finds, copies, Call, clears, takes, moves, looks, Given, lookedBy, leftBy, givenBy, movesBy, course, MovesAlone}
+use Rattle.promises.proofs.Proposals.{Proposal, answering}
 use Rattle.promises.proofs.Lent.{whole}
 use Rattle.promises.proofs.Records.{bytesOf, record-back}
 use Rattle.promises.proofs.Unchanged.{clear-refused, take-refused, move-refused}
@@ -25,13 +26,10 @@ use Rattle.promises.proofs.Unchanged.{clear-refused, take-refused, move
 -- the proposed moves among calls
 abbrev pub proposals : List Call → List Proposal
 proposals [] = []
-proposals (clears width height depth ∷ cs) = proposals cs
+proposals (clears b ∷ cs) = proposals cs
 proposals (takes source destination payload ∷ cs) = proposals cs
 proposals (moves slot code ∷ cs) = record { slot = slot; code = code } ∷ proposals cs
-proposals (reads slot ∷ cs) = proposals cs
-proposals (checks ∷ cs) = proposals cs
-proposals (finds ∷ cs) = proposals cs
-proposals (copies second ∷ cs) = proposals cs
+proposals (looks l ∷ cs) = proposals cs
 
 -- a delivery as bytes
 abbrev pub asGiven : Delivery → Given
@@ -67,9 +65,9 @@ passed-by s c cs left told counts e t =
     joined s c cs (trace answering (leftBy ours s c) (proposals cs)) [] 0 (e ∙ back) refl refl (omega arith) told counts (subst (λ (u : List ℕ). Traced u cs) (sym left) t)
 
 -- a proposed move, by whether it is accepted and whether its code is delivery's
-module _ (s : List ℕ) (b : Bytes s) (slot code : ℕ) (cs : List Call) (t : Traced (movedInSlice s slot code .bytes) cs) where
+module _ (s : List ℕ) (b : Bytes s) (slot code : ℕ) (cs : List Call) (t : Traced (movedSlice s slot code .bytes) cs) where
   abbrev o : Outcome Moved (List ℕ)
-  o = movedInSlice s slot code
+  o = movedSlice s slot code
 
   abbrev d : Delivery
   d = record { node = placeIn s slot .node; packet = packetOf (o .answer .packet) }
@@ -77,7 +75,7 @@ module _ (s : List ℕ) (b : Bytes s) (slot code : ℕ) (cs : List Call) (t : Tr
   abbrev then : Answer (List ℕ) → Trace (List ℕ)
   then a = after (λ u. trace answering u (proposals cs)) s a
 
-  moved-on : (y z : Bool) → eqb (o .answer .number) 0 ≡ y → eqb code 7 ≡ z → Traced s (moves slot code ∷ cs)
+  moved-on : (y z : Bool) → eqb (o .answer .number) 0 ≡ y → eqb code delivery ≡ z → Traced s (moves slot code ∷ cs)
   moved-on true true e f =
       let w = whole s b slot code in
       let same = record-back (o .answer .packet) (w .1) (w .2) in
@@ -89,22 +87,28 @@ module _ (s : List ℕ) (b : Bytes s) (slot code : ℕ) (cs : List Call) (t : Tr
       let same = ap (λ (u : Outcome Moved (List ℕ)). u .bytes) (move-refused s slot code (eqb-false _ 0 e)) in
       passed-by s (moves slot code) cs same (none z f) (rw e) (rw e) (subst (λ (u : List ℕ). Traced u cs) same t)
     where
-      none : (z : Bool) → eqb code 7 ≡ z → givenBy ours s (moves slot code) ≡ []
+      none : (z : Bool) → eqb code delivery ≡ z → givenBy ours s (moves slot code) ≡ []
       none true f = rw (e, f)
       none false f = rw (e, f)
 
+-- a look leaves the slice as it was
+pub looked : (s : List ℕ) (l : Look) → lookedBy ours s l ≡ s
+looked s (reads slot) = refl
+looked s checks = refl
+looked s finds = refl
+looked s (copies second) = refl
+
 pub traced : (calls : List Call) (s : List ℕ) → Bytes s → MovesAlone ours s calls → Traced s calls
 traced [] s b q = record { last = refl; given = refl; accepted = refl; bytes = b }
-traced (clears width height depth ∷ cs) s b q =
-    let same = ap (λ (o : Outcome ℕ (List ℕ)). o .bytes) (clear-refused s width height depth (q .0)) in
-    passed-by s (clears width height depth) cs same refl refl refl (traced cs s b (rw same at (q .1)))
+traced (clears k ∷ cs) s b q =
+    let same = ap (λ (o : Outcome ℕ (List ℕ)). o .bytes) (clear-refused s k (q .0)) in
+    passed-by s (clears k) cs same refl refl refl (traced cs s b (rw same at (q .1)))
 traced (takes source destination payload ∷ cs) s b q =
     let same = ap (λ (o : Outcome Taken (List ℕ)). o .bytes) (take-refused s source destination payload (q .0)) in
     passed-by s (takes source destination payload) cs same refl refl refl (traced cs s b (rw same at (q .1)))
 traced (moves slot code ∷ cs) s b q =
-    moved-on s b slot code cs (traced cs (movedInSlice s slot code .bytes) (whole s b slot code .0) (q .1))
-    (eqb (movedInSlice s slot code .answer .number) 0) (eqb code 7) refl refl
-traced (reads slot ∷ cs) s b q = passed-by s (reads slot) cs refl refl refl refl (traced cs s b (q .1))
-traced (checks ∷ cs) s b q = passed-by s checks cs refl refl refl refl (traced cs s b (q .1))
-traced (finds ∷ cs) s b q = passed-by s finds cs refl refl refl refl (traced cs s b (q .1))
-traced (copies second ∷ cs) s b q = passed-by s (copies second) cs refl refl refl refl (traced cs s b (q .1))
+    moved-on s b slot code cs (traced cs (movedSlice s slot code .bytes) (whole s b slot code .0) (q .1))
+    (eqb (movedSlice s slot code .answer .number) 0) (eqb code delivery) refl refl
+traced (looks l ∷ cs) s b q =
+    let same = looked s l in
+    passed-by s (looks l) cs same refl refl refl (traced cs s b (rw same at (q .1)))

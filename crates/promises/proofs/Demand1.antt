@@ -6,10 +6,10 @@ use mathlib.Core.List.{List}
 use Rattle.network.specs.declared.Lead.{Lead}
 use Rattle.network.specs.declared.Lead.the-variants.{Hop, Turn, Out, NotOffered}
 use Rattle.router.specs.declared.moving.Moved.{Moved}
-use Rattle.router.specs.Outcome.{Outcome}
-use Rattle.router.specs.Move.{movedInSlice}
+use Rattle.table.specs.Calls.{Outcome}
+use Rattle.router.specs.Move.{movedSlice}
 use Rattle.promises.specs.Conditions.{EmptyAt, leadIn}
-use Rattle.promises.specs.Router.{ours}
+use Rattle.calls.specs.Router.{ours}
 use Rattle.promises.specs.Demand1.{Demand1}
 use Rattle.promises.specs.Demand2.{Step}
 use Rattle.promises.proofs.Refusing.{clear-refuses, take-refuses}
@@ -26,7 +26,7 @@ step-empties s slot NotOffered o a = absurd a
 
 pub demand-1 : Demand1 ours
 demand-1 = record {
-  clear = λ s b width height depth. clear-refuses s width height depth;
+  clear = λ s b board. clear-refuses s board;
   take-in = λ s b source destination payload. take-refuses s source destination payload;
   make-move = λ s b slot code. move-refuses s slot code;
   read-payload = λ s b slot. read-refuses s slot;
@@ -34,7 +34,7 @@ demand-1 = record {
   find = λ s b. find-refuses s b;
   copy-outward = λ s out b. copy-refuses s out;
   reads = λ s out slot. (refl, refl, refl, refl);
-  emptied = λ s b slot code z. step-empties s slot (leadIn s slot code) (movedInSlice s slot code) (demand-2 .step s b slot code z);
+  emptied = λ s b slot code z. step-empties s slot (leadIn s slot code) (movedSlice s slot code) (demand-2 .step s b slot code z);
   behind = λ p t g. all-behind p t g;
   behind-clear = clear-behind;
 }

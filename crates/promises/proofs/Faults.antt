@@ -1,47 +1,25 @@
--- The full check names a place exactly where document 01 has a first fault, and that place.
+-- The full check's first fault is document 01's: the place that the searches find is a fault, and where they find nothing there is none.
 -- Assumes nothing.
 use Prim.Native.Nat.{ℕ, zero, suc, _-_, _≤_, _<_}
-use mathlib.Core.Path.{_≡_, refl, sym, ap, subst, _∙_}
-use mathlib.Core.Logic.{_≢_, inl, inr}
+use mathlib.Core.Path.{_≡_, refl, sym, ap, _∙_}
+use mathlib.Core.Logic.{_⊎_, inl, inr}
 use mathlib.Core.Bool.{Bool, true, false, not, cond, _&&_, _||_}
 use mathlib.Core.List.{List}
 use native.Mathlib.Omega.{arith}
 use lib.Dec.{eqb}
 use borrow.Author.Tests.{not-true, eqb-true, eqb-false}
+use Rattle.network.specs.declared.Lowest.{Lowest}
+use Rattle.network.specs.declared.Lowest.the-variants.{At, Nowhere}
 use Rattle.network.proofs.Tests.{clash, both-true, and-both}
-use Rattle.table.specs.declared.trailer.Headed.{Headed}
-use Rattle.table.specs.declared.trailer.Headed.the-variants.{Good, Bad}
-use Rattle.table.specs.Trailer.{trailerOf}
+use Rattle.network.proofs.SearchLaws.{at-lowest, nowhere-none}
 use Rattle.table.specs.Packets.{goodAt}
-use Rattle.survey.specs.declared.checking.Fault.{Fault}
-use Rattle.survey.specs.declared.checking.Fault.the-variants.{At, Nowhere}
-use Rattle.survey.specs.declared.checking.Checked.{Checked}
-use Rattle.survey.specs.declared.checking.Checked.the-variants as checked
-use Rattle.survey.specs.Check.{
-  heldAt,
-  serialAt,
-  spoiledAt,
-  firstSpoiled,
-  hasSerial,
-  repeatsAt,
-  firstRepeat,
-  heldBelow,
-  orElse,
-  countsOk,
-  serialsOk,
-  checkedIn,
-  checkedBy,
-  checkedSlice,
-}
-use Rattle.survey.proofs.CheckLaws.{first-lowest, first-none, serial-unused}
-use Rattle.survey.proofs.Meaning.{count-held, none-or}
-use Rattle.promises.specs.Slices.{headIn, tableIn, GoodIn, slotsIn, heldIn}
+use Rattle.survey.specs.Check.{heldAt, serialAt, spoiledAt, firstSpoiled, hasSerial, repeatsAt, firstRepeat, heldBelow, miscount, orElse, faultIn}
+use Rattle.survey.proofs.CheckLaws.{fault-none, serial-unused}
+use Rattle.survey.proofs.Meaning.{count-held}
+use Rattle.calls.specs.Slices.{headIn, tableIn, GoodIn, slotsIn, heldIn}
 use Rattle.promises.specs.Conditions.{SpoiledAt, RepeatsAt, NoneBelow, FaultAt, spoiled, repeated, miscounted}
-use Rattle.promises.specs.Demand1.{Grounds, ground, First, checkGrounds}
-use Rattle.promises.proofs.Reading.{good-in}
 use Rattle.promises.proofs.Conditions.{zeros-held, held-zeros, good-test, test-good}
-use Rattle.promises.proofs.Checked.{checked-is}
-use Rattle.promises.proofs.Grounds.{not-due, not-both, first-trailer}
+use Rattle.promises.proofs.Grounds.{not-due, not-both}
 
 -- a serial that is found is that of a lower held slot
 serial-found : (t : List ℕ) (serial n : ℕ) → hasSerial t serial n ≡ true → (j : ℕ) × (j < n) × (heldAt t j ≡ true) × (serialAt t j ≡ serial)
@@ -54,6 +32,11 @@ serial-found t serial (suc n) e = go (heldAt t n) (eqb (serialAt t n) serial) re
     go true true p q f rest = (n, omega arith, p, eqb-true _ _ q)
     go true false p q f rest = let r = rest f in (r .0, omega (arith, r .1), r .2, r .3)
     go false b p q f rest = let r = rest f in (r .0, omega (arith, r .1), r .2, r .3)
+
+-- the first of two searches that finds something
+first-or : {p : ℕ} (r next : Lowest) → orElse r next ≡ At p → (r ≡ At p) ⊎ ((r ≡ Nowhere) × (next ≡ At p))
+first-or (At k) next e = inl e
+first-or Nowhere next e = inr (refl, e)
 
 module _ (s : List ℕ) (g : GoodIn s) where
   -- ---- each test of the check, and its condition
@@ -98,111 +81,60 @@ module _ (s : List ℕ) (g : GoodIn s) where
   held-is : heldIn s ≡ heldBelow (tableIn s) (slotsIn s)
   held-is = count-held (headIn s) (tableIn s) (slotsIn s)
 
-  -- ---- what the three searches say
+  -- ---- each search, and what it finds or rules out
 
   all-good : firstSpoiled (headIn s) (tableIn s) ≡ Nowhere → NoneBelow (SpoiledAt s) (slotsIn s)
   unfolding firstSpoiled
   all-good e =
-      let q = first-none (spoiledAt (headIn s) (tableIn s)) 0 (slotsIn s) e in
+      let q = nowhere-none (spoiledAt (headIn s) (tableIn s)) 0 (slotsIn s) e in
       none-spoiled (slotsIn s) (omega arith) (λ j l. q .lacks j (omega arith) (omega arith))
 
-  all-fresh : firstRepeat (tableIn s) (slotsIn s) ≡ Nowhere → NoneBelow (RepeatsAt s) (slotsIn s)
+  all-fresh : firstRepeat (headIn s) (tableIn s) ≡ Nowhere → NoneBelow (RepeatsAt s) (slotsIn s)
   unfolding firstRepeat
   all-fresh e =
-      let q = first-none (repeatsAt (tableIn s)) 0 (slotsIn s) e in
+      let q = nowhere-none (repeatsAt (tableIn s)) 0 (slotsIn s) e in
       none-repeats (slotsIn s) (omega arith) (λ j l. q .lacks j (omega arith) (omega arith))
 
-  spoiled-fault : (k : ℕ) → firstSpoiled (headIn s) (tableIn s) ≡ At k → FaultAt s k
-  unfolding firstSpoiled
-  spoiled-fault k e =
-      let q = first-lowest (spoiledAt (headIn s) (tableIn s)) 0 (slotsIn s) k e in
-      let l : k < slotsIn s = omega (arith, q .below) in
-      spoiled l (test-spoiled k (q .has)) (none-spoiled k (omega arith) (λ j m. q .least j (omega arith) m))
+  module _ (p : ℕ) where
+    spoiled-fault : firstSpoiled (headIn s) (tableIn s) ≡ At p → FaultAt s p
+    unfolding firstSpoiled
+    spoiled-fault e =
+        let q = at-lowest (spoiledAt (headIn s) (tableIn s)) 0 (slotsIn s) p e in
+        let l : p < slotsIn s = omega (arith, q .below) in
+        spoiled l (test-spoiled p (q .has)) (none-spoiled p (omega arith) (λ j m. q .least j (omega arith) m))
 
-  repeated-fault : NoneBelow (SpoiledAt s) (slotsIn s) → (k : ℕ) → firstRepeat (tableIn s) (slotsIn s) ≡ At k → FaultAt s k
-  unfolding firstRepeat
-  repeated-fault none k e =
-      let q = first-lowest (repeatsAt (tableIn s)) 0 (slotsIn s) k e in
-      let l : k < slotsIn s = omega (arith, q .below) in
-      repeated none l (test-repeats k (q .has)) (none-repeats k (omega arith) (λ j m. q .least j (omega arith) m))
+    repeated-fault : NoneBelow (SpoiledAt s) (slotsIn s) → firstRepeat (headIn s) (tableIn s) ≡ At p → FaultAt s p
+    unfolding firstRepeat
+    repeated-fault good e =
+        let q = at-lowest (repeatsAt (tableIn s)) 0 (slotsIn s) p e in
+        let l : p < slotsIn s = omega (arith, q .below) in
+        repeated good l (test-repeats p (q .has)) (none-repeats p (omega arith) (λ j m. q .least j (omega arith) m))
 
-  -- ---- the check
+    miscount-fault : NoneBelow (SpoiledAt s) (slotsIn s) → NoneBelow (RepeatsAt s) (slotsIn s) → miscount (headIn s) (tableIn s) ≡ At p → FaultAt s p
+    unfolding miscount
+    miscount-fault good fresh e = go (eqb (headIn s .taken - headIn s .delivered) (heldBelow (tableIn s) (slotsIn s))) refl e
+      where
+        go : (b : Bool) → eqb (headIn s .taken - headIn s .delivered) (heldBelow (tableIn s) (slotsIn s)) ≡ b → cond b Nowhere (At (slotsIn s)) ≡ At p
+            → FaultAt s p
+        go true f q = clash cc
+        go false f q = miscounted good fresh (λ c. eqb-false _ _ f (c ∙ held-is)) cc
 
-  counted : (p : ℕ) → NoneBelow (SpoiledAt s) (slotsIn s) → NoneBelow (RepeatsAt s) (slotsIn s) → countsOk (headIn s) (tableIn s) ≡ checked.FaultAt p → FaultAt s p
-  unfolding countsOk
-  counted p good fresh e = go (eqb (headIn s .taken - headIn s .delivered) (heldBelow (tableIn s) (slotsIn s))) refl e
-    where
-      go : (b : Bool) → eqb (headIn s .taken - headIn s .delivered) (heldBelow (tableIn s) (slotsIn s)) ≡ b
-          → cond b checked.Passes (checked.FaultAt (slotsIn s)) ≡ checked.FaultAt p → FaultAt s p
-      go true f q = clash cc
-      go false f q = miscounted good fresh (λ c. eqb-false _ _ f (c ∙ held-is)) cc
+    -- ---- the first fault
 
-  serials : (p : ℕ) → NoneBelow (SpoiledAt s) (slotsIn s) → serialsOk (headIn s) (tableIn s) ≡ checked.FaultAt p → FaultAt s p
-  unfolding serialsOk
-  serials p good e = go (firstRepeat (tableIn s) (slotsIn s)) refl e
-    where
-      go : (f : Fault) → firstRepeat (tableIn s) (slotsIn s) ≡ f → orElse f (countsOk (headIn s) (tableIn s)) ≡ checked.FaultAt p → FaultAt s p
-      go (At k) f q = let same : k ≡ p = cc in subst (FaultAt s) same (repeated-fault good k f)
-      go Nowhere f q = counted p good (all-fresh f) q
+    pub fault-there : faultIn (headIn s) (tableIn s) ≡ At p → FaultAt s p
+    unfolding faultIn
+    fault-there e = elim (first-or (firstSpoiled (headIn s) (tableIn s)) _ e) [
+      | inl a ↦ spoiled-fault a
+      | inr a ↦ elim (first-or (firstRepeat (headIn s) (tableIn s)) _ (a .1)) [
+        | inl b ↦ repeated-fault (all-good (a .0)) b
+        | inr b ↦ elim (first-or (miscount (headIn s) (tableIn s)) _ (b .1)) [
+          | inl c ↦ miscount-fault (all-good (a .0)) (all-fresh (b .0)) c
+          | inr c ↦ let n = c .1 in clash cc
+        ]
+      ]
+    ]
 
-  fault-in : (p : ℕ) → checkedIn (headIn s) (tableIn s) ≡ checked.FaultAt p → FaultAt s p
-  unfolding checkedIn
-  fault-in p e = go (firstSpoiled (headIn s) (tableIn s)) refl e
-    where
-      go : (f : Fault) → firstSpoiled (headIn s) (tableIn s) ≡ f → orElse f (serialsOk (headIn s) (tableIn s)) ≡ checked.FaultAt p → FaultAt s p
-      go (At k) f q = let same : k ≡ p = cc in subst (FaultAt s) same (spoiled-fault k f)
-      go Nowhere f q = serials p (all-good f) q
-
-  chosen : (b : Bool) (n : ℕ) → cond b checked.Passes (checked.FaultAt n) ≡ checked.Passes → b ≡ true
-  chosen true n e = refl
-  chosen false n e = clash cc
-
-  no-fault : checkedIn (headIn s) (tableIn s) ≡ checked.Passes → (p : ℕ) → FaultAt s p → ⊥
-  unfolding checkedIn serialsOk countsOk
-  no-fault e p f =
-      let a = none-or (firstSpoiled (headIn s) (tableIn s)) (serialsOk (headIn s) (tableIn s)) e in
-      let b = none-or (firstRepeat (tableIn s) (slotsIn s)) (countsOk (headIn s) (tableIn s)) (a .1) in
-      let n = eqb-true (headIn s .taken - headIn s .delivered) (heldBelow (tableIn s) (slotsIn s)) (chosen _ (slotsIn s) (b .1)) in
-      go (all-good (a .0)) (all-fresh (b .0)) (n ∙ sym held-is) f
-    where
-      go : NoneBelow (SpoiledAt s) (slotsIn s) → NoneBelow (RepeatsAt s) (slotsIn s) → headIn s .taken - headIn s .delivered ≡ heldIn s → FaultAt s p → ⊥
-      go good fresh n (spoiled l h u) = good p l h
-      go good fresh n (repeated u l h v) = fresh p l h
-      go good fresh n (miscounted u v m w) = m n
-
-  never-bad : checkedIn (headIn s) (tableIn s) ≢ checked.BadTrailer
-  unfolding checkedIn serialsOk countsOk
-  never-bad e =
-      go (firstSpoiled (headIn s) (tableIn s)) (firstRepeat (tableIn s) (slotsIn s))
-      (eqb (headIn s .taken - headIn s .delivered) (heldBelow (tableIn s) (slotsIn s))) e
-    where
-      go : (a b : Fault) (c : Bool) → orElse a (orElse b (cond c checked.Passes (checked.FaultAt (slotsIn s)))) ≡ checked.BadTrailer → ⊥
-      go (At k) b c e = clash cc
-      go Nowhere (At k) c e = clash cc
-      go Nowhere Nowhere true e = clash cc
-      go Nowhere Nowhere false e = clash cc
-
--- ---- of a slice
-
-module _ (s : List ℕ) where
-  pub fault-there : (p : ℕ) → checkedSlice s ≡ checked.FaultAt p → FaultAt s p
-  unfolding checkedSlice
-  fault-there p e = go (trailerOf s) refl e
-    where
-      go : (t : Headed) → trailerOf s ≡ t → checkedBy s t ≡ checked.FaultAt p → FaultAt s p
-      go Bad f q = clash cc
-      go (Good h) f q = let g = good-in s f in fault-in s g p (sym (checked-is s g) ∙ e)
-
-  bad-checked : trailerOf s ≡ Bad → checkedSlice s ≡ checked.BadTrailer
-  unfolding checkedSlice
-  bad-checked e = ap (checkedBy s) e
-
-  -- refusals 1 and 10 come first
-  pub first-check : (rest : Grounds) (n : ℕ) → (checkedSlice s ≡ checked.BadTrailer → n ≡ 1) → ((p : ℕ) → checkedSlice s ≡ checked.FaultAt p → n ≡ 10)
-      → (checkedSlice s ≡ checked.Passes → First rest n) → First (checkGrounds s rest) n
-  first-check rest n bad fault pass = first-trailer s (ground 10 ((place : ℕ) × FaultAt s place) rest) n (λ e. bad (bad-checked e)) (λ g. go g (checkedSlice s) refl)
-    where
-      go : GoodIn s → (c : Checked) → checkedSlice s ≡ c → First (ground 10 ((place : ℕ) × FaultAt s place) rest) n
-      go g checked.Passes e = inr (λ f. no-fault s g (sym (checked-is s g) ∙ e) (f .0) (f .1), pass e)
-      go g checked.BadTrailer e = absurd (never-bad s g (sym (checked-is s g) ∙ e))
-      go g (checked.FaultAt p) e = inl ((p, fault-there p e), fault p e)
+    pub no-fault : faultIn (headIn s) (tableIn s) ≡ Nowhere → FaultAt s p → ⊥
+    no-fault e (spoiled l h u) = let q = fault-none (headIn s) (tableIn s) e .sound in not-both _ (spoiled-test p l h) (q .lacks p (omega arith) (omega arith))
+    no-fault e (repeated u l h v) = let q = fault-none (headIn s) (tableIn s) e .single in not-both _ (repeats-test p l h) (q .lacks p (omega arith) (omega arith))
+    no-fault e (miscounted u v m w) = m (fault-none (headIn s) (tableIn s) e .counted ∙ sym held-is)

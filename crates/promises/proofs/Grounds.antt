@@ -3,18 +3,21 @@
 -- Assumes nothing.
 use Prim.Native.Nat.{ℕ}
 use mathlib.Core.Path.{_≡_, refl, sym, ap, subst, _∙_}
-use mathlib.Core.Logic.{_⊎_, inl, inr, _↔_}
-use mathlib.Core.Bool.{Bool, true, false, not, cond, _||_}
+use mathlib.Core.Logic.{inl, inr, _↔_}
+use mathlib.Core.Bool.{Bool, true, false, not, cond}
 use mathlib.Core.List.{List, [], _∷_}
+use native.Mathlib.Decide.{ℕ-discrete}
 use Rattle.network.proofs.Tests.{clash}
-use Rattle.table.specs.Refusals.{Row, firstDue}
+use Rattle.table.specs.declared.trailer.Head.{Head}
 use Rattle.table.specs.declared.trailer.Headed.{Headed}
 use Rattle.table.specs.declared.trailer.Headed.the-variants.{Good, Bad}
+use Rattle.table.specs.Refusals.{Row, firstDue, trailer-not-good}
 use Rattle.table.specs.Trailer.{trailerOf}
-use Rattle.router.specs.Outcome.{Outcome}
-use Rattle.promises.specs.Slices.{GoodIn}
+use Rattle.table.specs.Calls.{Outcome, answered, onTable}
+use Rattle.table.proofs.CallLaws.{answered-done, answered-refused, on-table-bad, on-table-good}
+use Rattle.calls.specs.Slices.{headIn, tableIn, GoodIn}
 use Rattle.promises.specs.Demand1.{Grounds, end, ground, First, Refuses}
-use Rattle.promises.proofs.Reading.{good-in, bad-in}
+use Rattle.promises.proofs.Reading.{good-is, good-in, bad-in}
 use Rattle.promises.proofs.Unchanged.{Refused}
 
 -- ---- the first condition that holds has one number
@@ -57,36 +60,56 @@ not-due false e f = clash cc
 pub not-both : (b : Bool) → b ≡ true → b ≡ false → ⊥
 not-both b e f = clash cc
 
--- two rows of one number are one
-pub joined : (a b : Bool) (m n : ℕ) → cond a m (cond b m n) ≡ cond (a || b) m n
-joined true b m n = refl
-joined false b m n = refl
-
-pub either : {A B : Type 0} (a b : Bool) → (a ≡ true → A) → (b ≡ true → B) → (a || b) ≡ true → A ⊎ B
-either true b f g e = inl (f refl)
-either false b f g e = inr (g e)
-
--- ---- refusal 1 comes first
+-- ---- conditions
 
 -- the refusals after the first
 abbrev pub later : Grounds → Grounds
 later end = end
 later (ground m C rest) = rest
 
-pub first-trailer : (s : List ℕ) (rest : Grounds) (n : ℕ) → (trailerOf s ≡ Bad → n ≡ 1) → (GoodIn s → First rest n)
-    → First (ground 1 (GoodIn s → ⊥) rest) n
-first-trailer s rest n bad good = go (trailerOf s) refl
-  where
-    go : (t : Headed) → trailerOf s ≡ t → First (ground 1 (GoodIn s → ⊥) rest) n
-    go Bad e = inl (bad-in s e, bad e)
-    go (Good h) e = let g = good-in s e in inr (λ u. u g, good g)
+-- two conditions of one number are one
+pub first-joined : (m n : ℕ) {C D E : Type 0} (rest : Grounds) → (C → E) → (D → E) → ((C → ⊥) → (D → ⊥) → E → ⊥)
+    → First (ground m C (ground m D rest)) n → First (ground m E rest) n
+first-joined m n rest c d neither (inl a) = inl (c (a .0), a .1)
+first-joined m n rest c d neither (inr (u, inl a)) = inl (d (a .0), a .1)
+first-joined m n rest c d neither (inr (u, inr (v, later))) = inr (neither u v, later)
 
--- ---- a call whose refusals are all made alike
+-- ---- calls: the number answered is that of the first condition that holds
 
-module _ {A : Type 0} (number : A → ℕ) (refusal : ℕ → A) (Told : A → Type 0) (says : (n : ℕ) → Told (refusal n)) where
-  pub refuses : (g : Grounds) (s : List ℕ) (o : Outcome A (List ℕ)) → Refused number refusal s o → First g (number (o .answer)) → Refuses number Told g s o
-  refuses g s o r f = record {
-    exactly = exactly-first g (number (o .answer)) f;
-    told = λ u. subst (λ (x : Outcome A (List ℕ)). Told (x .answer)) (sym (r u)) (says (number (o .answer)));
-    unchanged = λ u. ap (λ (x : Outcome A (List ℕ)). x .bytes) (r u);
-  }
+module _ {A : Type 0} (number : A → ℕ) (refusal : ℕ → A) (named : (n : ℕ) → number (refusal n) ≡ n) where
+  abbrev of : {B : Type 0} → Outcome A B → ℕ
+  of o = number (o .answer)
+
+  -- of one that answers by its rows
+  module _ {B : Type 0} (rows : List Row) (lent : B) (done : Outcome A B) (zero : number (done .answer) ≡ 0) where
+    pub answered-number : number (answered rows refusal lent done .answer) ≡ firstDue rows
+    answered-number = elim (ℕ-discrete (firstDue rows) 0) [
+      | yes e ↦ ap of (answered-done rows refusal lent done e) ∙ zero ∙ sym e
+      | no u ↦ ap of (answered-refused rows refusal lent done refl u) ∙ named (firstDue rows)
+    ]
+
+    pub first-answered : (g : Grounds) → Tells rows g → First g (number (answered rows refusal lent done .answer))
+    first-answered g t = subst (First g) (sym answered-number) (first-due rows g t)
+
+  -- of one on the table of a slice: refusal 1 comes first
+  pub first-on-table : (s : List ℕ) (f : Head → List ℕ → Outcome A (List ℕ)) (rest : Grounds)
+      → (GoodIn s → First rest (number (f (headIn s) (tableIn s) .answer))) → First (ground 1 (GoodIn s → ⊥) rest) (number (onTable s refusal f .answer))
+  unfolding tableIn
+  first-on-table s f rest good = go (trailerOf s) refl
+    where
+      go : (t : Headed) → trailerOf s ≡ t → First (ground 1 (GoodIn s → ⊥) rest) (number (onTable s refusal f .answer))
+      go Bad e = inl (bad-in s e, ap of (on-table-bad s refusal f e) ∙ named trailer-not-good)
+      go (Good h) e =
+          let g = good-in s e in
+          inr (λ u. u g, subst (First rest) (sym (ap of (on-table-good s refusal f (headIn s) (good-is s g)))) (good g))
+
+  -- ---- and a refusal says what all of the call's do
+
+  module _ (Told : A → Type 0) (says : (n : ℕ) → Told (refusal n)) where
+    pub refuses : (g : Grounds) (s : List ℕ) (o : Outcome A (List ℕ)) → Refused number refusal s o → First g (number (o .answer))
+        → Refuses number Told g s o
+    refuses g s o r f = record {
+      exactly = exactly-first g (number (o .answer)) f;
+      told = λ u. subst (λ (x : Outcome A (List ℕ)). Told (x .answer)) (sym (r u)) (says (number (o .answer)));
+      unchanged = λ u. ap (λ (x : Outcome A (List ℕ)). x .bytes) (r u);
+    }

@@ -19,8 +19,8 @@ use Rattle.table.specs.Carriage.{hop}
 use Rattle.table.proofs.PacketLaws.{mark-not-zero}
 use Rattle.router.specs.declared.moving.Moved.{Moved}
 use Rattle.router.specs.declared.taking.Taken.{Taken}
-use Rattle.router.specs.Outcome.{Outcome}
-use Rattle.promises.specs.Slices.{headIn, GoodIn, netIn, slotsIn, slotIn}
+use Rattle.table.specs.Calls.{Outcome}
+use Rattle.calls.specs.Slices.{headIn, GoodIn, netIn, slotsIn, slotIn}
 use Rattle.promises.specs.Conditions.{EmptyAt, HeldAt, NothingHeld}
 use Rattle.promises.specs.Demand2.{GoodPacket, Goes, Leaves}
 use Rattle.promises.specs.Demand3.{boundOf, boundsIn}
@@ -72,9 +72,9 @@ module _ (s : List ℕ) (g : GoodIn s) where
         (take-out (recordAt (o .bytes)) (recordAt s) (e .to) (slotsIn s) _ (e .waiting .inside) (ap recordOf (e .come)) (no-record (e .to) (e .waiting .empty))
         (λ j l u. ap recordOf (sym (e .rest .slots j l u))))
 
-    pub entered-bounds : List·Permᴰ (boundsIn (o .bytes)) (boundFor (netIn s) source destination (o .answer .serial) payload ∷ boundsIn s)
-    entered-bounds =
-        rw (bounds-are (o .bytes), bounds-are s, ap (λ (a : Taken). a .serial) (e .answer)) (map-perm (boundOf (netIn s)) entered-records)
+    pub entered-bounds : netIn (o .bytes) ≡ netIn s → List·Permᴰ (boundsIn (o .bytes)) (boundFor (netIn s) source destination (o .answer .serial) payload ∷ boundsIn s)
+    entered-bounds net =
+        rw (bounds-are (o .bytes), bounds-are s, ap (λ (a : Taken). a .serial) (e .answer), net) (map-perm (boundOf (netIn s)) entered-records)
 
   module _ (slot : ℕ) (p : GoodPacket s slot) (o : Outcome Moved (List ℕ)) (same : slotsIn (o .bytes) ≡ slotsIn s) where
     pub left-records : Leaves s slot o → List·Permᴰ (recordsIn s) (slotIn s slot ∷ recordsIn (o .bytes))

@@ -9,9 +9,9 @@ use Rattle.network.specs.Lists.{All}
 use Rattle.network.proofs.Lists.{all-perm, images-all, length-perm}
 use Rattle.table.specs.Packets.{packetOf}
 use Rattle.survey.specs.Check.{checkAnswer}
-use Rattle.promises.specs.Slices.{GoodIn}
-use Rattle.promises.specs.Router.{ours}
-use Rattle.promises.specs.Calls.{Call, Handed}
+use Rattle.calls.specs.Slices.{GoodIn, netIn}
+use Rattle.calls.specs.Router.{ours}
+use Rattle.calls.specs.Calls.{Call, Handed}
 use Rattle.promises.specs.Demand3.{boundsIn}
 use Rattle.promises.specs.History.{Ledger, entered, ledger, hopsOf, Balanced, History}
 use Rattle.promises.proofs.Checked.{passing-good, passing-in}
@@ -46,9 +46,9 @@ module _ (r : Ledger) (k : Kept r) where
         passes = ap (λ x. checkAnswer x .number) (k .passes);
         accounted = k .same;
         hops = all-with (λ g p q. p ∙ q) (r .given) (images-all _ _ (r .given) (told .0))
-            (all-parts Spans (r .given) (boundsIn (r .last)) (all-perm Spans (k .same) (k .spans)) .0);
+            (all-parts (Spans (netIn (r .last))) (r .given) (boundsIn (r .last)) (all-perm (Spans (netIn (r .last))) (k .same) (k .spans)) .0);
         hops-held = record-has (r .last) good-last _ (told .1);
       }
 
 pub history : History ours
-history s b width height depth z calls p = kept-balanced _ (ledger-kept calls p _ (fresh-kept s b width height depth z))
+history s b board z calls p = kept-balanced _ (ledger-kept calls p _ (fresh-kept s b board z))

@@ -14,36 +14,35 @@ use borrow.Author.Tests.{eqb-true, eqb-false}
 use Rattle.network.specs.declared.Place.{Place}
 use Rattle.network.specs.declared.Lead.{Lead}
 use Rattle.network.specs.declared.Lead.the-variants.{Hop, Turn, Out, NotOffered}
+use Rattle.network.specs.Net.{delivery}
 use Rattle.network.specs.Packet.{Packet, withHops}
 use Rattle.network.specs.View.{Layout}
 use Rattle.network.proofs.Tests.{clash}
-use Rattle.mesh.specs.Rule.{ruled}
-use Rattle.mesh.proofs.Codes.{out-code}
 use Rattle.slots.specs.Bytes.{bytes32}
 use Rattle.slots.proofs.Numbers.{digits}
 use Rattle.slots.proofs.SlotLaws.{length-slotAt}
 use Rattle.table.specs.declared.trailer.Head.{Head}
 use Rattle.table.specs.Packets.{packetOf}
 use Rattle.table.specs.Carriage.{hop}
-use Rattle.table.proofs.Places.{slot-fits}
+use Rattle.table.proofs.BoardLaws.{net-laws, slot-fits}
+use Rattle.table.proofs.PacketLaws.{packet-hop}
 use Rattle.router.specs.declared.moving.Moved.{Moved}
 use Rattle.router.specs.declared.taking.Taken.{Taken}
-use Rattle.router.specs.Outcome.{Outcome}
-use Rattle.router.specs.Move.{barred, movedInSlice}
+use Rattle.table.specs.Calls.{Outcome}
+use Rattle.router.specs.Move.{barred, leadOf, movedSlice}
 use Rattle.survey.specs.declared.checking.Checked.the-variants.{Passes}
 use Rattle.survey.specs.Check.{checkedSlice}
-use Rattle.promises.specs.Slices.{Bytes, headIn, tableIn, GoodIn, slotsIn, slotIn, placeIn, packetIn}
+use Rattle.calls.specs.Slices.{Bytes, headIn, boardIn, tableIn, GoodIn, slotsIn, slotIn, placeIn}
 use Rattle.promises.specs.Conditions.{leadIn}
-use Rattle.promises.specs.Router.{ours}
-use Rattle.promises.specs.Calls.{moves, Given, givenBy}
+use Rattle.calls.specs.Router.{ours}
+use Rattle.calls.specs.Calls.{moves, Given, givenBy}
 use Rattle.promises.specs.Demand2.{GoodPacket, Goes, Leaves, Step}
 use Rattle.promises.specs.Answers.{newPacket, Enters}
 use Rattle.promises.specs.History.{hopBy, hoppedBy}
 use Rattle.promises.proofs.Records.{set-same}
 use Rattle.promises.proofs.Unchanged.{move-refused}
 use Rattle.promises.proofs.Conditions.{lead-is, sized}
-use Rattle.promises.proofs.Steps.{packet-hop}
-use Rattle.promises.proofs.Slices.{seven-out}
+use Rattle.promises.proofs.Slices.{delivery-out}
 use Rattle.promises.proofs.Checked.{passing-good}
 use Rattle.promises.proofs.Demand2.{demand-2}
 use Rattle.promises.proofs.Demand3.{head-same, layout-same}
@@ -76,7 +75,7 @@ module _ (s : List ℕ) (good : GoodIn s) (small : headIn s .taken < 2 ^ 32) (so
 module _ (s : List ℕ) (b : Bytes s) (c : checkedSlice s ≡ Passes) (slot code : ℕ) (given : List Given) (hopped : List ℕ)
     (h : Recorded (headIn s .taken) hopped (packets given ++ recordsIn s)) where
   abbrev o : Outcome Moved (List ℕ)
-  o = movedInSlice s slot code
+  o = movedSlice s slot code
 
   abbrev v : List ℕ
   v = slotIn s slot
@@ -94,11 +93,11 @@ module _ (s : List ℕ) (b : Bytes s) (c : checkedSlice s ≡ Passes) (slot code
   slots-same : slotsIn (o .bytes) ≡ slotsIn s
   slots-same = ap (λ (Y : Layout). Y .size) (layout-same s b c (moves slot code ∷ []) (tt, tt))
 
-  -- code 7 leads nowhere but out
-  seven : eqb code 7 ≡ true → (lead : Lead) → leadIn s slot code ≡ lead → barred lead ≡ false → lead ≡ Out
-  seven w lead f =
-      seven-out _ _ lead
-      (subst (λ (n : ℕ). ruled (placeIn s slot) (packetIn s slot .packet .destination) n ≡ lead) (eqb-true _ _ w) (sym (lead-is s slot code) ∙ f))
+  -- delivery leads nowhere but out
+  leads-out : eqb code delivery ≡ true → (lead : Lead) → leadIn s slot code ≡ lead → barred lead ≡ false → lead ≡ Out
+  leads-out w lead f g =
+      let e : leadOf (boardIn s) (tableIn s) slot code ≡ lead = sym (lead-is s slot code) ∙ f in
+      sym e ∙ delivery-out (boardIn s) (placeIn s slot) _ (eqb-true _ _ w) (rw e g)
 
   module _ (p : GoodPacket s slot) where
     hop-says : (more : ℕ) → packetOf (hop v more) ≡ withHops (packetOf v) (getD v 3 0 + more)
@@ -125,26 +124,26 @@ module _ (s : List ℕ) (b : Bytes s) (c : checkedSlice s ≡ Passes) (slot code
     has-left g is e =
         rw (taken-same, is) (recorded-perm (headIn s .taken) hopped (among given (left-records s good slot p o slots-same e)) h)
 
-    by-lead : (g : Given) → g .packet ≡ o .answer .packet → (lead : Lead) → leadIn s slot code ≡ lead → Step s slot lead o → (a : Bool) → eqb code 7 ≡ a
+    by-lead : (g : Given) → g .packet ≡ o .answer .packet → (lead : Lead) → leadIn s slot code ≡ lead → Step s slot lead o → (a : Bool) → eqb code delivery ≡ a
         → Now (hopBy lead (serialOf v)) (cond (a && true) (g ∷ []) [])
-    by-lead g is (Hop n) f e true w = let q = seven w (Hop n) f refl in clash cc
+    by-lead g is (Hop n) f e true w = let q = leads-out w (Hop n) f refl in clash cc
     by-lead g is (Hop n) f e false w = has-hopped _ e
-    by-lead g is (Turn k) f e true w = let q = seven w (Turn k) f refl in clash cc
+    by-lead g is (Turn k) f e true w = let q = leads-out w (Turn k) f refl in clash cc
     by-lead g is (Turn k) f e false w = has-turned _ e
     by-lead g is Out f e true w = has-left g (is ∙ ap (λ (a : Moved). a .packet) (e .answer)) e
-    by-lead g is Out f e false w = absurd (eqb-false _ _ w (out-code _ _ code (sym (lead-is s slot code) ∙ f)))
+    by-lead g is Out f e false w = absurd (eqb-false _ _ w (net-laws (boardIn s) .out-code _ _ code (sym (lead-is s slot code) ∙ f)))
     by-lead g is NotOffered f e a w = absurd e
 
   same : o .bytes ≡ s → Now [] []
   same e = rw e h
 
   pub move-recorded : Now (hoppedBy ours s (moves slot code)) (givenBy ours s (moves slot code))
-  move-recorded = go (eqb (o .answer .number) 0) (eqb code 7) refl refl
+  move-recorded = go (eqb (o .answer .number) 0) (eqb code delivery) refl refl
     where
       g : Given
       g = record { node = placeIn s slot .node; packet = o .answer .packet }
 
-      go : (y a : Bool) → eqb (o .answer .number) 0 ≡ y → eqb code 7 ≡ a → Now (cond y (hopBy (leadIn s slot code) (serialOf v)) []) (cond (a && y) (g ∷ []) [])
+      go : (y a : Bool) → eqb (o .answer .number) 0 ≡ y → eqb code delivery ≡ a → Now (cond y (hopBy (leadIn s slot code) (serialOf v)) []) (cond (a && y) (g ∷ []) [])
       go true a f w =
           let z = eqb-true _ _ f in
           by-lead (demand-2 .only s b slot code z .0) g refl (leadIn s slot code) refl (demand-2 .step s b slot code z) a w

@@ -10,74 +10,74 @@ use lib.Dec.{eqb}
 use lib.ListN.{length}
 use borrow.Author.Tests.{eqb-true, eqb-false}
 use Rattle.network.specs.Lists.{All}
-use Rattle.network.specs.View.{Layout}
+use Rattle.network.specs.Net.{Net}
 use Rattle.network.proofs.Lists.{swap-front}
-use Rattle.mesh.specs.Grid.{distanceOf}
+use Rattle.table.specs.declared.board.Board.{Board}
 use Rattle.table.specs.declared.trailer.Head.{Head}
-use Rattle.table.specs.Trailer.{slotCount}
+use Rattle.table.specs.Board.{netOf}
 use Rattle.table.specs.Layout.{layoutOf}
 use Rattle.table.specs.Packets.{packetOf}
-use Rattle.table.proofs.TrailerLaws.{taking}
+use Rattle.table.proofs.CountLaws.{taking}
 use Rattle.router.specs.declared.taking.Taken.{Taken}
-use Rattle.router.specs.Outcome.{Outcome}
-use Rattle.router.specs.Clear.{depthUsed, cleared}
-use Rattle.router.specs.TakeIn.{takenInSlice}
+use Rattle.table.specs.Calls.{Outcome}
+use Rattle.router.specs.Clear.{used, clearedSlice}
+use Rattle.router.specs.TakeIn.{takenSlice}
 use Rattle.survey.specs.declared.checking.Checked.the-variants.{Passes}
 use Rattle.survey.specs.Check.{checkAnswer, checkedSlice}
-use Rattle.promises.specs.Slices.{Bytes, headIn, GoodIn, netIn, slotsIn}
+use Rattle.calls.specs.Slices.{Bytes, headIn, GoodIn, netIn, slotsIn}
 use Rattle.promises.specs.Conditions.{NothingHeld}
-use Rattle.promises.specs.Router.{ours}
-use Rattle.promises.specs.Calls.{Call, clears, takes, moves, reads, checks, finds, copies, Handed, Given, Quiet, leftBy, givenBy}
+use Rattle.calls.specs.Router.{ours}
+use Rattle.calls.specs.Calls.{Call, clears, takes, moves, looks, Handed, Given, Quiet, lookedBy, leftBy, givenBy}
 use Rattle.promises.specs.Demand3.{boundsIn}
 use Rattle.promises.specs.Answers.{Fresh, Enters}
 use Rattle.promises.specs.History.{boundFor, hoppedBy, Ledger, opened, entered}
 use Rattle.promises.proofs.Reading.{head-is, good-in, good-is}
 use Rattle.promises.proofs.Checked.{taken-small, passing-good, passing-in, number-passes}
 use Rattle.promises.proofs.Standing.{Stands, stands-checked}
-use Rattle.promises.proofs.Taking.{layout-taking, take-stands}
+use Rattle.promises.proofs.Taking.{take-stands}
 use Rattle.promises.proofs.Clearing.{clear-stands}
 use Rattle.promises.proofs.Unchanged.{clear-refused, take-refused}
-use Rattle.promises.proofs.Demand3.{head-same, demand-3}
+use Rattle.promises.proofs.Course.{looked}
+use Rattle.promises.proofs.Demand3.{head-same, net-same, demand-3}
 use Rattle.promises.proofs.Answers.{answers}
 use Rattle.promises.proofs.Held.{recordsIn, bounds-are, no-records, entered-bounds}
 use Rattle.promises.proofs.Counted.{Recorded, none-recorded}
 use Rattle.promises.proofs.Hopping.{packets, taking-recorded, move-recorded}
 
 -- bound for delivery after as many hops as the distance
-abbrev pub Spans : Given → Type 0
-Spans g = packetOf (g .packet) .hops ≡ distanceOf (packetOf (g .packet) .source) (packetOf (g .packet) .destination)
+abbrev pub Spans : Net → Given → Type 0
+Spans N g = packetOf (g .packet) .hops ≡ N .distance (packetOf (g .packet) .source) (packetOf (g .packet) .destination)
 
 pub record Kept (r : Ledger) : Type 0 where
   pub bytes : Bytes (r .last)
   pub passes : checkedSlice (r .last) ≡ Passes
   pub taken : headIn (r .last) .taken ≡ length (r .taken)
   pub same : List·Permᴰ (r .taken) (r .given ++ boundsIn (r .last))
-  pub spans : All Spans (r .taken)
+  pub spans : All (Spans (netIn (r .last))) (r .taken)
   pub hops : Recorded (headIn (r .last) .taken) (r .hopped) (packets (r .given) ++ recordsIn (r .last))
 
 -- ---- an accepted clear holds nothing
 
-module _ (s : List ℕ) (b : Bytes s) (width height depth : ℕ) (z : cleared s width height depth .answer ≡ 0) where
+module _ (s : List ℕ) (b : Bytes s) (board : Board) (z : clearedSlice s board .answer ≡ 0) where
   abbrev u : List ℕ
-  u = cleared s width height depth .bytes
+  u = clearedSlice s board .bytes
 
-  fresh : Fresh s width height (depthUsed depth) u
-  fresh = answers .clear s b width height depth z
+  fresh : Fresh s (used board) u
+  fresh = answers .clear s b board z
 
   good : GoodIn u
-  good = good-in u (clear-stands s width height depth z .head)
+  good = good-in u (clear-stands s board z .head)
 
   none : NothingHeld u
-  unfolding layoutOf
-  none k l = fresh .slots k (subst (λ (h : Head). k < slotCount (h .width) (h .height) (h .depth)) (fresh .head) l)
+  none k l = fresh .slots k (subst (λ (h : Head). k < layoutOf (h .board) .size) (fresh .head) l)
 
   pub fresh-kept : Kept (opened u)
   fresh-kept =
       let taken : headIn u .taken ≡ 0 = ap (λ (h : Head). h .taken) (fresh .head) in
       let empty = no-records u good none in
       record {
-        bytes = answers .bytes s b (clears width height depth) tt;
-        passes = number-passes (checkedSlice u) (stands-checked u _ (clear-stands s width height depth z));
+        bytes = answers .bytes s b (clears board) tt;
+        passes = number-passes (checkedSlice u) (stands-checked u _ (clear-stands s board z));
         taken = taken;
         same = rw (bounds-are u, empty) List·Permᴰ·nil;
         spans = tt;
@@ -108,7 +108,7 @@ module _ (r : Ledger) (k : Kept r) where
         taken = ap (λ (x : Head). x .taken) (head-same s (k .bytes) (k .passes) (c ∷ []) (q, tt)) ∙ k .taken;
         same = subst (List·Permᴰ (r .taken)) (sym (append-assoc gone (r .given) now))
             (List·Permᴰ·trans (k .same) (List·Permᴰ·trans (Permᴰ·append-left (r .given) moved) (swap-front (r .given) gone now)));
-        spans = k .spans;
+        spans = subst (λ (N : Net). All (Spans N) (r .taken)) (sym (net-same s (k .bytes) (k .passes) (c ∷ []) (q, tt))) (k .spans);
         hops = hops;
       }
 
@@ -128,7 +128,7 @@ module _ (r : Ledger) (k : Kept r) where
 
   module _ (source destination : ℕ) (payload : List ℕ) (b : Bytes payload) (l : length payload ≡ 8) where
     abbrev o : Outcome Taken (List ℕ)
-    o = takenInSlice s source destination payload
+    o = takenSlice s source destination payload
 
     abbrev new : Given
     new = boundFor (netIn s) source destination (o .answer .serial) payload
@@ -141,12 +141,14 @@ module _ (r : Ledger) (k : Kept r) where
       stands = take-stands s (headIn s) standing source destination payload l z
 
       slots-same : slotsIn (o .bytes) ≡ slotsIn s
-      slots-same =
-          ap (λ (h : Head). layoutOf h .size) (head-is (o .bytes) (stands .head)) ∙ ap (λ (Y : Layout). Y .size) (layout-taking (headIn s) (headIn s .taken + 1))
+      slots-same = ap (λ (h : Head). layoutOf (h .board) .size) (head-is (o .bytes) (stands .head))
+
+      nets-same : netIn (o .bytes) ≡ netIn s
+      nets-same = ap (λ (h : Head). netOf (h .board)) (head-is (o .bytes) (stands .head))
 
       taken-kept : Kept record { last = o .bytes; taken = new ∷ r .taken; given = r .given; hopped = r .hopped }
       taken-kept =
-          let bounds = entered-bounds s good-now source destination payload o slots-same enters in
+          let bounds = entered-bounds s good-now source destination payload o slots-same enters nets-same in
           let taken : headIn (o .bytes) .taken ≡ suc (headIn s .taken) = omega (arith, ap (λ (h : Head). h .taken) (head-is (o .bytes) (stands .head))) in
           record {
             bytes = answers .bytes s (k .bytes) (takes source destination payload) (b, l);
@@ -154,7 +156,7 @@ module _ (r : Ledger) (k : Kept r) where
             taken = taken ∙ ap suc (k .taken);
             same = List·Permᴰ·trans (List·Permᴰ·cons refl (k .same))
                 (List·Permᴰ·trans (Permᴰ·symm (Permᴰ·middle new (r .given) (boundsIn s))) (Permᴰ·append-left (r .given) (Permᴰ·symm bounds)));
-            spans = (refl, k .spans);
+            spans = subst (λ (N : Net). All (Spans N) (new ∷ r .taken)) (sym nets-same) (refl, k .spans);
             hops = rw taken
                 (taking-recorded s good-now (standing .small) source destination payload o slots-same enters (r .given) (r .hopped) (k .hops));
           }
@@ -171,25 +173,22 @@ module _ (r : Ledger) (k : Kept r) where
 
   -- ---- any call
 
-  clear-kept : (width height depth : ℕ) → Kept (entered ours (clears width height depth) r)
-  clear-kept width height depth = go (eqb (cleared s width height depth .answer) 0) refl
+  clear-kept : (board : Board) → Kept (entered ours (clears board) r)
+  clear-kept board = go (eqb (clearedSlice s board .answer) 0) refl
     where
       now : List ℕ
-      now = cleared s width height depth .bytes
+      now = clearedSlice s board .bytes
 
-      go : (y : Bool) → eqb (cleared s width height depth .answer) 0 ≡ y
+      go : (y : Bool) → eqb (clearedSlice s board .answer) 0 ≡ y
           → Kept record { last = now; taken = cond y (opened s) r .taken; given = cond y (opened s) r .given; hopped = cond y (opened s) r .hopped }
-      go true e = fresh-kept s (k .bytes) width height depth (eqb-true _ _ e)
+      go true e = fresh-kept s (k .bytes) board (eqb-true _ _ e)
       go false e =
           let u = eqb-false _ _ e in
-          quiet-kept (clears width height depth) tt u
-          (hops-same now (ap (λ (w : Outcome ℕ (List ℕ)). w .bytes) (clear-refused s width height depth u)))
+          quiet-kept (clears board) tt u
+          (hops-same now (ap (λ (w : Outcome ℕ (List ℕ)). w .bytes) (clear-refused s board u)))
 
   pub call-kept : (c : Call) → Handed c → Kept (entered ours c r)
-  call-kept (clears width height depth) h = clear-kept width height depth
+  call-kept (clears board) h = clear-kept board
   call-kept (takes source destination payload) h = take-kept source destination payload (h .0) (h .1)
   call-kept (moves slot code) h = quiet-kept (moves slot code) tt tt (move-recorded s (k .bytes) (k .passes) slot code (r .given) (r .hopped) (k .hops))
-  call-kept (reads slot) h = quiet-kept (reads slot) tt tt (k .hops)
-  call-kept checks h = quiet-kept checks tt tt (k .hops)
-  call-kept finds h = quiet-kept finds tt tt (k .hops)
-  call-kept (copies second) h = quiet-kept (copies second) tt tt (k .hops)
+  call-kept (looks l) h = quiet-kept (looks l) tt tt (hops-same (lookedBy ours s l) (looked s l))

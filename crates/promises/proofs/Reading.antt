@@ -12,7 +12,7 @@ use Rattle.table.specs.declared.trailer.Headed.{Headed}
 use Rattle.table.specs.declared.trailer.Headed.the-variants.{Good, Bad}
 use Rattle.table.specs.Trailer.{trailerOf, Sized}
 use Rattle.table.proofs.TrailerLaws.{trailer-good, good-trailer, trailer-after, trailer-sized}
-use Rattle.promises.specs.Slices.{headIn, GoodIn, tableIn, beforeIn}
+use Rattle.calls.specs.Slices.{headIn, GoodIn, tableIn, beforeIn}
 
 module _ (s : List ℕ) {h : Head} (e : trailerOf s ≡ Good h) where
   pub head-is : headIn s ≡ h
@@ -30,7 +30,7 @@ module _ (s : List ℕ) {h : Head} (e : trailerOf s ≡ Good h) where
   pub good-in : GoodIn s
   good-in = rw head-is (trailer-good s e)
 
-  pub table-fits : Sized h (tableIn s)
+  pub table-fits : Sized (h .board) (tableIn s)
   table-fits = rw table-is (trailer-sized s e)
 
 pub good-is : (s : List ℕ) → GoodIn s → trailerOf s ≡ Good (headIn s)

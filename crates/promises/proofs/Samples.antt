@@ -7,10 +7,9 @@ use mathlib.Core.List.{List, [], _∷_}
 use lib.Dec.{ltb}
 use borrow.Author.Tests.{ltb-true}
 use Rattle.network.proofs.Tests.{and-l, and-r}
-use Rattle.slots.specs.Bytes.{bytes32}
-use Rattle.table.specs.Trailer.{trailerBytes}
-use Rattle.promises.specs.Slices.{Bytes}
+use Rattle.calls.specs.Slices.{Bytes}
 use Rattle.promises.specs.Wrong.{waits, arrived, departs, vacant}
+use Rattle.promises.proofs.Computing.{bytes}
 
 abbrev small : List ℕ → Bool
 small [] = true
@@ -21,21 +20,21 @@ bytes-by [] e = tt
 bytes-by (x ∷ s) e = (ltb-true x 256 (and-l (ltb x 256) (small s) e), bytes-by s (and-r (ltb x 256) (small s) e))
 
 pub waits-bytes : Bytes waits
-unfolding bytes32 trailerBytes
+unfolding bytes
 waits-bytes = bytes-by waits refl
 
 pub arrived-bytes : Bytes arrived
-unfolding bytes32 trailerBytes
+unfolding bytes
 arrived-bytes = bytes-by arrived refl
 
 pub departs-bytes : Bytes (departs 0)
-unfolding bytes32 trailerBytes
+unfolding bytes
 departs-bytes = bytes-by (departs 0) refl
 
 pub second-bytes : Bytes (departs 1)
-unfolding bytes32 trailerBytes
+unfolding bytes
 second-bytes = bytes-by (departs 1) refl
 
 pub vacant-bytes : Bytes vacant
-unfolding bytes32 trailerBytes
+unfolding bytes
 vacant-bytes = bytes-by vacant refl

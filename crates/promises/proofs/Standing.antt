@@ -10,11 +10,12 @@ use Rattle.network.specs.View.{View, contents}
 use Rattle.table.specs.declared.trailer.Head.{Head}
 use Rattle.table.specs.declared.trailer.Headed.the-variants.{Good}
 use Rattle.table.specs.Trailer.{trailerOf}
-use Rattle.table.specs.Layout.{netOf, layoutOf}
+use Rattle.table.specs.Board.{netOf}
+use Rattle.table.specs.Layout.{layoutOf}
 use Rattle.table.specs.Packets.{viewOf}
 use Rattle.table.proofs.TrailerLaws.{trailer-after}
 use Rattle.survey.specs.Check.{checkAnswer, checkedSlice}
-use Rattle.promises.specs.Slices.{netIn, see, contentsIn}
+use Rattle.calls.specs.Slices.{netIn, see, contentsIn}
 use Rattle.promises.proofs.Reading.{head-is, good-in}
 use Rattle.promises.proofs.Slices.{see-after, see-good}
 use Rattle.promises.proofs.Checked.{passes-in}
@@ -22,24 +23,24 @@ use Rattle.promises.proofs.Checked.{passes-in}
 pub record Stands (s : List ℕ) (h : Head) : Type 0 where
   pub head : trailerOf s ≡ Good h
   pub small : h .taken < 2 ^ 32
-  pub passing : Passing (netOf h) (contents (layoutOf h) (see s))
+  pub passing : Passing (netOf (h .board)) (contents (layoutOf (h .board)) (see s))
 
 -- the same of the table alone
-pub table-passing : (s : List ℕ) (h : Head) → Stands s h → Passing (netOf h) (contents (layoutOf h) (viewOf h (drop (length s - h .size) s)))
-table-passing s h a = subst (λ (v : View). Passing (netOf h) (contents (layoutOf h) v)) (see-good s h (a .head)) (a .passing)
+pub table-passing : (s : List ℕ) (h : Head) → Stands s h → Passing (netOf (h .board)) (contents (layoutOf (h .board)) (viewOf h (drop (length s - h .size) s)))
+table-passing s h a = subst (λ (v : View). Passing (netOf (h .board)) (contents (layoutOf (h .board)) v)) (see-good s h (a .head)) (a .passing)
 
 -- a table that stands does so behind any bytes
 pub stands-after : (p t : List ℕ) (h : Head) → trailerOf t ≡ Good h → length t ≡ h .size → h .taken < 2 ^ 32
-    → Passing (netOf h) (contents (layoutOf h) (viewOf h t)) → Stands (p ++ t) h
+    → Passing (netOf (h .board)) (contents (layoutOf (h .board)) (viewOf h t)) → Stands (p ++ t) h
 stands-after p t h e l small P = record {
   head = trailer-after p t e;
   small = small;
-  passing = subst (λ (v : View). Passing (netOf h) (contents (layoutOf h) v)) (sym (see-after p t h e l)) P;
+  passing = subst (λ (v : View). Passing (netOf (h .board)) (contents (layoutOf (h .board)) v)) (sym (see-after p t h e l)) P;
 }
 
 -- as the slice's own words have it
 stands-in : (s : List ℕ) (h : Head) → Stands s h → Passing (netIn s) (contentsIn s)
-stands-in s h a = subst (λ (g : Head). Passing (netOf g) (contents (layoutOf g) (see s))) (sym (head-is s (a .head))) (a .passing)
+stands-in s h a = subst (λ (g : Head). Passing (netOf (g .board)) (contents (layoutOf (g .board)) (see s))) (sym (head-is s (a .head))) (a .passing)
 
 pub stands-checked : (s : List ℕ) (h : Head) → Stands s h → checkAnswer (checkedSlice s) .number ≡ 0
 stands-checked s h a = rw (passes-in s (good-in s (a .head)) (stands-in s h a))

@@ -10,15 +10,16 @@ use Rattle.network.specs.declared.Kind.the-variants.{Waiting, A, B}
 use Rattle.network.specs.declared.Place.{Place}
 use Rattle.network.specs.declared.Lead.{Lead}
 use Rattle.network.specs.declared.Lead.the-variants.{Hop, Turn, Out, NotOffered}
-use Rattle.network.specs.Net.{Net, at}
+use Rattle.network.specs.Net.{Net, at, delivery}
 use Rattle.network.specs.Packet.{Item, offer}
 use Rattle.mesh.specs.Grid.{node, xOf, yOf}
 use Rattle.mesh.specs.Mesh.{mesh}
 use Rattle.slots.specs.Slots.{slotAt}
 use Rattle.table.specs.Layout.{numberOf}
-use Rattle.router.specs.Outcome.{Outcome}
-use Rattle.promises.specs.Slices.{headIn, slotsIn, placeIn}
-use Rattle.promises.specs.Router.{ours}
+use Rattle.table.specs.Calls.{Outcome}
+use Rattle.router.specs.Clear.{asked}
+use Rattle.calls.specs.Slices.{headIn, boardIn, slotsIn, placeIn}
+use Rattle.calls.specs.Router.{ours}
 use Rattle.promises.specs.Demand3.{sumIn}
 
 -- ---- the rule
@@ -49,13 +50,13 @@ offered x (code ∷ l) = kept code (offered x l) (offer grid x code)
 
 -- a clear of a slice of n zeros
 abbrev made : ℕ → ℕ → ℕ → ℕ → Outcome ℕ (List ℕ)
-made width height depth n = ours .clear (replicate n 0) width height depth
+made width height depth n = ours .clear (replicate n 0) (asked width height depth)
 
 -- its number and, where that is 0, what the trailer made then tells: the depth used, S and the table's bytes
 abbrev told : Outcome ℕ (List ℕ) → List ℕ
 told o =
     let u = o .bytes in
-    cond (eqb (o .answer) 0) (0 ∷ headIn u .depth ∷ slotsIn u ∷ headIn u .size ∷ []) (o .answer ∷ [])
+    cond (eqb (o .answer) 0) (0 ∷ boardIn u .depth ∷ slotsIn u ∷ headIn u .size ∷ []) (o .answer ∷ [])
 
 -- the kinds by number: waiting, A, B
 abbrev kindNumber : Kind → ℕ
@@ -93,7 +94,7 @@ abbrev next : Walk → ℕ → Walk
 next (walking moves s slot) code =
     let o = ours .make-move s slot code in
     cond (eqb (o .answer .number) 0)
-    (cond (eqb code 7) (arrived (suc moves) (placeIn s slot .node) (o .answer .packet)) (walking (suc moves) (o .bytes) (o .answer .slot)))
+    (cond (eqb code delivery) (arrived (suc moves) (placeIn s slot .node) (o .answer .packet)) (walking (suc moves) (o .bytes) (o .answer .slot)))
     refused
 next (arrived moves n packet) code = refused
 next refused code = refused

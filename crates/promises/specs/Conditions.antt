@@ -3,15 +3,16 @@
 use Prim.Native.Nat.{ℕ, _-_, _<_, _≤_}
 use mathlib.Core.Path.{_≡_}
 use mathlib.Core.Logic.{_≢_}
+use mathlib.Core.Bool.{true}
 use mathlib.Core.List.{List}
 use Rattle.network.specs.declared.Place.{Place}
 use Rattle.network.specs.declared.Lead.{Lead}
 use Rattle.network.specs.declared.Lead.the-variants.{Hop, Turn, Out, NotOffered}
 use Rattle.network.specs.Net.{at}
 use Rattle.network.specs.Packet.{Good}
-use Rattle.mesh.specs.Published.{published}
 use Rattle.slots.specs.Slots.{emptySlot}
-use Rattle.promises.specs.Slices.{headIn, netIn, slotsIn, slotIn, placeIn, packetIn, heldIn}
+use Rattle.table.specs.Board.{publishedOn}
+use Rattle.calls.specs.Slices.{headIn, boardIn, netIn, slotsIn, slotIn, placeIn, packetIn, heldIn}
 
 -- an empty slot is 16 zeros; a slot that isn't empty is held
 abbrev pub EmptyAt : List ℕ → ℕ → Type 0
@@ -27,12 +28,13 @@ GoodAt s k = Good (netIn s) (headIn s .taken) (headIn s .delivered) (packetIn s 
 abbrev pub SpoiledAt : List ℕ → ℕ → Type 0
 SpoiledAt s k = HeldAt s k × (GoodAt s k → ⊥)
 
-abbrev pub IsCode : ℕ → Type 0
-IsCode code = (1 ≤ code) × (code ≤ 7)
+-- a code that there is: on a grid one from 1 to 7
+abbrev pub IsCode : List ℕ → ℕ → Type 0
+IsCode s code = netIn s .known code ≡ true
 
 -- where the published function leads the packet of a slot by a code
 abbrev pub leadIn : List ℕ → ℕ → ℕ → Lead
-leadIn s k code = published (placeIn s k) (packetIn s k .packet .destination) code
+leadIn s k code = publishedOn (boardIn s) (placeIn s k) (packetIn s k .packet .destination) code
 
 -- slot j is an empty one of the queue at that place
 pub record EmptyOf (s : List ℕ) (p : Place) (j : ℕ) : Type 0 where

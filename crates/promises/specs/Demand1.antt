@@ -10,18 +10,20 @@ use Rattle.network.specs.declared.Kind.the-variants.{Waiting}
 use Rattle.network.specs.declared.Lead.the-variants.{NotOffered}
 use Rattle.network.specs.Net.{at}
 use Rattle.slots.specs.Slots.{emptySlot}
-use Rattle.table.specs.Trailer.{Dims, tableSize}
+use Rattle.table.specs.declared.board.Board.{Board}
+use Rattle.table.specs.Board.{GoodBoard}
+use Rattle.table.specs.Layout.{tableSize}
 use Rattle.router.specs.declared.moving.Moved.{Moved}
 use Rattle.router.specs.declared.taking.Taken.{Taken}
-use Rattle.router.specs.Outcome.{Outcome, outcome, after}
-use Rattle.router.specs.Clear.{depthUsed}
+use Rattle.table.specs.Calls.{Outcome, outcome, after}
+use Rattle.router.specs.Clear.{used}
 use Rattle.router.specs.ReadPayload.{Reading}
 use Rattle.survey.specs.Check.{CheckAnswer}
 use Rattle.survey.specs.Find.{FindAnswer}
 use Rattle.survey.specs.Copy.{CopyAnswer}
-use Rattle.promises.specs.Slices.{Bytes, headIn, GoodIn, netIn, slotsIn, placeIn}
+use Rattle.calls.specs.Slices.{Bytes, headIn, GoodIn, netIn, slotsIn, placeIn}
 use Rattle.promises.specs.Conditions.{EmptyAt, SpoiledAt, IsCode, leadIn, HasEmpty, Room, FaultAt, NothingHeld}
-use Rattle.promises.specs.Router.{Router}
+use Rattle.calls.specs.Router.{Router}
 
 -- the refusals of a call in the paper's order, each with its number and the condition that it is given for
 pub data Grounds : Type 1 where
@@ -33,10 +35,10 @@ abbrev pub First : Grounds → ℕ → Type 0
 First end n = n ≡ 0
 First (ground m Condition rest) n = (Condition × (n ≡ m)) ⊎ ((Condition → ⊥) × First rest n)
 
-abbrev pub clearGrounds : List ℕ → ℕ → ℕ → ℕ → Grounds
-clearGrounds s width height depth =
-    ground 8 (Dims width height (depthUsed depth) → ⊥)
-    (ground 9 (length s < tableSize width height (depthUsed depth))
+abbrev pub clearGrounds : List ℕ → Board → Grounds
+clearGrounds s b =
+    ground 8 (GoodBoard (used b) → ⊥)
+    (ground 9 (length s < tableSize (used b))
     end)
 
 abbrev pub takeGrounds : List ℕ → ℕ → ℕ → Grounds
@@ -58,7 +60,7 @@ slotGrounds s slot Odd rest =
 
 abbrev pub moveGrounds : List ℕ → ℕ → ℕ → Grounds
 moveGrounds s slot code =
-    slotGrounds s slot (IsCode code → ⊥)
+    slotGrounds s slot (IsCode s code → ⊥)
     (ground 5 (leadIn s slot code ≡ NotOffered)
     (ground 6 (Room s (placeIn s slot) (leadIn s slot code) → ⊥)
     end))
@@ -99,8 +101,7 @@ pub record Behind (R : Router) (p t : List ℕ) : Type 0 where
       R .copy-outward (p ++ t) out ≡ outcome (o .answer) record { slice = p ++ o .bytes .slice; second = o .bytes .second }
 
 pub record Demand1 (R : Router) : Type 0 where
-  pub clear : (s : List ℕ) → Bytes s → (width height depth : ℕ)
-      → Refuses (λ (n : ℕ). n) (λ n. Unit {0}) (clearGrounds s width height depth) s (R .clear s width height depth)
+  pub clear : (s : List ℕ) → Bytes s → (b : Board) → Refuses (λ (n : ℕ). n) (λ n. Unit {0}) (clearGrounds s b) s (R .clear s b)
   pub take-in : (s : List ℕ) → Bytes s → (source destination : ℕ) (payload : List ℕ)
       → Refuses (λ (a : Taken). a .number) (λ a. (a .slot ≡ 0) × (a .serial ≡ 0)) (takeGrounds s source destination) s (R .take-in s source destination payload)
   pub make-move : (s : List ℕ) → Bytes s → (slot code : ℕ)
@@ -121,5 +122,4 @@ pub record Demand1 (R : Router) : Type 0 where
   -- with any bytes before a table
   pub behind : (p t : List ℕ) → GoodIn t → Behind R p t
   -- a table that is to be cleared is known by its length alone
-  pub behind-clear : (p t : List ℕ) (width height depth : ℕ) → (Dims width height (depthUsed depth) → tableSize width height (depthUsed depth) ≤ length t)
-      → R .clear (p ++ t) width height depth ≡ after p (R .clear t width height depth)
+  pub behind-clear : (p t : List ℕ) (b : Board) → (GoodBoard (used b) → tableSize (used b) ≤ length t) → R .clear (p ++ t) b ≡ after p (R .clear t b)

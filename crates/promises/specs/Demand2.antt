@@ -15,12 +15,12 @@ use Rattle.slots.specs.Slots.{slotAt, emptySlot}
 use Rattle.table.specs.Trailer.{last16}
 use Rattle.table.specs.Carriage.{hop}
 use Rattle.router.specs.declared.moving.Moved.{Moved}
-use Rattle.router.specs.Outcome.{Outcome}
+use Rattle.table.specs.Calls.{Outcome}
 use Rattle.survey.specs.Copy.{withoutPayload}
 use Rattle.survey.specs.Secrecy.{Alike}
-use Rattle.promises.specs.Slices.{Bytes, headIn, GoodIn, beforeIn, slotsIn, slotIn, placeIn}
+use Rattle.calls.specs.Slices.{Bytes, headIn, GoodIn, beforeIn, slotsIn, slotIn, placeIn}
 use Rattle.promises.specs.Conditions.{EmptyAt, HeldAt, GoodAt, IsCode, leadIn, LowestOf, Room}
-use Rattle.promises.specs.Router.{Router}
+use Rattle.calls.specs.Router.{Router}
 
 -- the slot holds a good packet, under a good trailer
 pub record GoodPacket (s : List ℕ) (slot : ℕ) : Type 0 where
@@ -74,7 +74,7 @@ pub record Shows (s copy : List ℕ) : Type 0 where
 
 pub record Demand2 (R : Router) : Type 0 where
   pub exactly : (s : List ℕ) → Bytes s → (slot code : ℕ) → GoodPacket s slot → (R .make-move s slot code .answer .number ≡ 0) ↔ Offered s slot code
-  pub only : (s : List ℕ) → Bytes s → (slot code : ℕ) → R .make-move s slot code .answer .number ≡ 0 → GoodPacket s slot × IsCode code
+  pub only : (s : List ℕ) → Bytes s → (slot code : ℕ) → R .make-move s slot code .answer .number ≡ 0 → GoodPacket s slot × IsCode s code
   pub step : (s : List ℕ) → Bytes s → (slot code : ℕ) → R .make-move s slot code .answer .number ≡ 0
       → Step s slot (leadIn s slot code) (R .make-move s slot code)
   pub copy : (s out : List ℕ) → Bytes s → R .copy-outward s out .answer .number ≡ 0 → Shows s (R .copy-outward s out .bytes .second)

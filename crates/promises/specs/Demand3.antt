@@ -2,21 +2,20 @@
 -- the sum are accepted; and when none is left to accept, every packet of the start has been delivered once, at its destination, with its
 -- payload, after exactly as many hops as the grid distance from its source.
 -- Assumes nothing.
-use Prim.Native.Nat.{ℕ, zero, suc, _+_, _<_, _≤_}
+use Prim.Native.Nat.{ℕ, _+_, _<_, _≤_}
 use mathlib.Core.Path.{_≡_}
 use mathlib.Core.Logic.{_≢_, _↔_, _⊎_}
 use mathlib.Core.Bool.{cond}
 use mathlib.Core.List.{List, [], _∷_, _++_, List·Permᴰ}
-use lib.Dec.{eqb}
 use lib.ListN.{getD, set}
 use Rattle.network.specs.Lists.{collect}
 use Rattle.network.specs.Net.{Net}
 use Rattle.network.specs.Drain.{sum}
 use Rattle.slots.specs.Slots.{zeros}
-use Rattle.promises.specs.Slices.{Bytes, netIn, slotsIn, slotIn, contentsIn}
+use Rattle.calls.specs.Slices.{Bytes, netIn, slotsIn, slotIn, contentsIn}
 use Rattle.promises.specs.Conditions.{HeldAt, NothingHeld}
-use Rattle.promises.specs.Router.{Router}
-use Rattle.promises.specs.Calls.{Call, moves, Given, leftBy, Course, course, MovesAlone}
+use Rattle.calls.specs.Router.{Router}
+use Rattle.calls.specs.Calls.{Call, Given, Course, course, MovesAlone, following}
 
 -- three plus its distance still to go for each waiting packet, two plus that distance for each in A, one plus that distance for each in B
 abbrev pub sumIn : List ℕ → ℕ
@@ -51,14 +50,6 @@ pub record Drained (R : Router) (s : List ℕ) (c : Course) : Type 0 where
       → (R .find (c .last) .answer .slot < slot) ⊎ ((R .find (c .last) .answer .slot ≡ slot) × (R .find (c .last) .answer .code ≤ code))
   pub not-stuck : (R .find (c .last) .answer .number ≡ 0) ⊎ (R .find (c .last) .answer .number ≡ 11)
   pub nothing : (R .find (c .last) .answer .number ≡ 11) ↔ NothingHeld (c .last)
-
--- find's move, made, and again, at most so many times
-abbrev pub following : Router → ℕ → List ℕ → List Call
-following R zero s = []
-following R (suc n) s =
-    let a = R .find s .answer in
-    let c = moves (a .slot) (a .code) in
-    cond (eqb (a .number) 0) (c ∷ following R n (leftBy R s c)) []
 
 pub record Demand3 (R : Router) : Type 0 where
   pub drains : (s : List ℕ) → Bytes s → R .full-check s .answer .number ≡ 0 → (calls : List Call) → MovesAlone R s calls

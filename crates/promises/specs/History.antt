@@ -13,11 +13,12 @@ use Rattle.network.specs.declared.Lead.the-variants.{Hop, Turn, Out, NotOffered
 use Rattle.network.specs.Lists.{total, All}
 use Rattle.network.specs.Net.{Net}
 use Rattle.slots.specs.Bytes.{bytes32}
+use Rattle.table.specs.declared.board.Board.{Board}
 use Rattle.table.specs.Packets.{packetOf}
-use Rattle.promises.specs.Slices.{Bytes, headIn, netIn, slotsIn, packetIn, heldIn}
+use Rattle.calls.specs.Slices.{Bytes, headIn, netIn, slotsIn, packetIn, heldIn}
 use Rattle.promises.specs.Conditions.{HeldAt, leadIn}
-use Rattle.promises.specs.Router.{Router}
-use Rattle.promises.specs.Calls.{Call, clears, takes, moves, reads, checks, finds, copies, Handed, Given, leftBy, givenBy}
+use Rattle.calls.specs.Router.{Router}
+use Rattle.calls.specs.Calls.{Call, clears, takes, moves, looks, Handed, Given, leftBy, givenBy}
 use Rattle.promises.specs.Demand3.{boundsIn}
 
 -- what a packet taken in is bound for: mark 1, source, destination, as many hops as the distance, the serial answered, the payload handed in
@@ -35,35 +36,26 @@ hopBy NotOffered serial = []
 module _ (R : Router) (s : List ℕ) where
   -- the packet that an accepted taking in takes in
   abbrev pub takenBy : Call → List Given
-  takenBy (clears width height depth) = []
+  takenBy (clears b) = []
   takenBy (takes source destination payload) =
       let a = R .take-in s source destination payload .answer in
       cond (eqb (a .number) 0) (boundFor (netIn s) source destination (a .serial) payload ∷ []) []
   takenBy (moves slot code) = []
-  takenBy (reads slot) = []
-  takenBy checks = []
-  takenBy finds = []
-  takenBy (copies second) = []
+  takenBy (looks l) = []
 
   -- the serial of the packet that an accepted move leads by a hop
   abbrev pub hoppedBy : Call → List ℕ
-  hoppedBy (clears width height depth) = []
+  hoppedBy (clears b) = []
   hoppedBy (takes source destination payload) = []
   hoppedBy (moves slot code) = cond (eqb (R .make-move s slot code .answer .number) 0) (hopBy (leadIn s slot code) (packetIn s slot .packet .serial)) []
-  hoppedBy (reads slot) = []
-  hoppedBy checks = []
-  hoppedBy finds = []
-  hoppedBy (copies second) = []
+  hoppedBy (looks l) = []
 
   -- is it an accepted clear?
   abbrev pub clearedBy : Call → Bool
-  clearedBy (clears width height depth) = eqb (R .clear s width height depth .answer) 0
+  clearedBy (clears b) = eqb (R .clear s b .answer) 0
   clearedBy (takes source destination payload) = false
   clearedBy (moves slot code) = false
-  clearedBy (reads slot) = false
-  clearedBy checks = false
-  clearedBy finds = false
-  clearedBy (copies second) = false
+  clearedBy (looks l) = false
 
 -- the slice; and since the last accepted clear, the latest first, the packets taken in, those handed out, and the serials of those that hopped
 pub record Ledger : Type 0 where
@@ -111,5 +103,5 @@ pub record Balanced (R : Router) (r : Ledger) : Type 0 where
 
 -- from any accepted clear on
 abbrev pub History : Router → Type 0
-History R = (s : List ℕ) → Bytes s → (width height depth : ℕ) → R .clear s width height depth .answer ≡ 0 → (calls : List Call) → All Handed calls
-    → Balanced R (ledger R (opened (R .clear s width height depth .bytes)) calls)
+History R = (s : List ℕ) → Bytes s → (b : Board) → R .clear s b .answer ≡ 0 → (calls : List Call) → All Handed calls
+    → Balanced R (ledger R (opened (R .clear s b .bytes)) calls)

@@ -1,58 +1,124 @@
--- That 7 comes before 6; what an accepting berth says; and what a new record says.
+-- When a packet is taken in, what the verdict on it tells of the call, and how long a new record is.
 -- Assumes nothing.
 use Prim.Native.Nat.{ℕ, _<_, _^_}
-use mathlib.Core.Path.{_≡_, sym, ap, _∙_}
+use mathlib.Core.Path.{_≡_, refl, sym, ap, _∙_}
 use mathlib.Core.Logic.{_≢_}
-use mathlib.Core.Bool.{true}
+use mathlib.Core.Bool.{true, false, not}
 use mathlib.Core.List.{List}
 use native.Mathlib.Omega.{arith}
-use borrow.Author.Tests.{eqb-false, eq-eqb, not-false}
+use native.Mathlib.Decide.{ℕ-discrete}
+use borrow.Author.Tests.{eqb-false, eq-eqb, ne-eqb, not-false}
 use lib.ListN.{length}
 use lib.Seq.{take-all}
 use Rattle.network.specs.declared.Kind.the-variants.{Waiting}
+use Rattle.network.specs.declared.Lowest.{Lowest}
+use Rattle.network.specs.declared.Lowest.the-variants.{At, Nowhere}
 use Rattle.network.specs.Net.{at}
+use Rattle.network.specs.Search.{isAt, numberAt}
+use Rattle.network.proofs.Tests.{clash, cond-true, cond-false}
+use Rattle.network.proofs.SearchLaws.{at-some}
 use Rattle.slots.specs.Bytes.{bytes32}
 use Rattle.slots.proofs.Numbers.{digits}
 use Rattle.table.specs.declared.trailer.Head.{Head}
-use Rattle.table.specs.declared.queues.Room.the-variants.{At}
-use Rattle.table.specs.Trailer.{Sized}
-use Rattle.table.specs.Layout.{netOf, layoutOf}
+use Rattle.table.specs.Refusals.{firstDue}
+use Rattle.table.specs.Board.{GoodBoard, netOf}
+use Rattle.table.specs.Layout.{layoutOf}
 use Rattle.table.specs.Packets.{packetOf}
-use Rattle.table.specs.Queues.{roomAt}
-use Rattle.table.proofs.QueueLaws.{room-there, room-within}
-use Rattle.table.proofs.RefusalLaws.{passed, accepted-by}
-use Rattle.router.specs.TakeIn.{berthOf, newRecord}
-
--- where all serials are given out the answer is 7, whatever the waiting slot holds
-pub all-given-out : (h : Head) (t : List ℕ) (source destination : ℕ) → netOf h .valid source ≡ true → netOf h .valid destination ≡ true
-    → h .taken ≡ 4294967295 → berthOf h t source destination ≡ record { number = 7; slot = 0 }
-unfolding berthOf
-all-given-out h t source destination on to e = rw (on, to, eq-eqb (h .taken) 4294967295 e)
+use Rattle.table.specs.Calls.{Outcome, outcome}
+use Rattle.table.proofs.QueueLaws.{room-within}
+use Rattle.table.proofs.RefusalLaws.{passed, accepted-by, refused-by}
+use Rattle.table.proofs.CallLaws.{answered-done, answered-refused}
+use Rattle.router.specs.declared.taking.Taken.{Taken}
+use Rattle.router.specs.declared.verdict.Verdict.{Verdict}
+use Rattle.router.specs.TakeIn.{refusal, waitingRoom, takeRows, newRecord, tookIn, takenIn}
+use Rattle.router.specs.Verdicts.{refusedBy, into, takeVerdict}
 
 -- the packet is taken in
-pub record Accepts (h : Head) (t : List ℕ) (source destination : ℕ) : Type 0 where
-  pub source-on : netOf h .valid source ≡ true
-  pub destination-on : netOf h .valid destination ≡ true
+pub record Welcome (h : Head) (t : List ℕ) (source destination : ℕ) : Type 0 where
+  pub source-on : netOf (h .board) .valid source ≡ true
+  pub destination-on : netOf (h .board) .valid destination ≡ true
   pub more : h .taken ≢ 4294967295
-  pub room : roomAt h t (at source Waiting) ≡ At (berthOf h t source destination .slot)
+  pub room : isAt (waitingRoom h t source) ≡ true
 
-module _ (h : Head) (t : List ℕ) (source destination : ℕ) (e : berthOf h t source destination .number ≡ 0) where
-  pub accepts : Accepts h t source destination
-  unfolding berthOf
-  accepts =
+module _ (h : Head) (t : List ℕ) (source destination : ℕ) where
+  abbrev pub takeDue : ℕ
+  takeDue = firstDue (takeRows h t source destination)
+
+  pub due-welcome : takeDue ≡ 0 → Welcome h t source destination
+  due-welcome e =
       let a = passed 1 _ _ e in
       let b = passed 1 _ _ (a .1) in
       let c = passed 6 _ _ (b .1) in
       let d = passed 5 _ _ (c .1) in
-      record {
-        source-on = not-false _ (a .0);
-        destination-on = not-false _ (b .0);
-        more = eqb-false _ _ (c .0);
-        room = room-there _ (d .0) ∙ ap At (sym (accepted-by _ _ e));
-      }
+      record { source-on = not-false _ (a .0); destination-on = not-false _ (b .0); more = eqb-false _ _ (c .0); room = not-false _ (d .0) }
 
-  pub berth-within : Sized h t → berthOf h t source destination .slot < layoutOf h .size
-  berth-within z = room-within h (z .dims) t (at source Waiting) _ (accepts .source-on) (accepts .room)
+  pub welcome-due : Welcome h t source destination → takeDue ≡ 0
+  welcome-due w =
+      cond-false _ _ (ap not (w .source-on)) ∙ cond-false _ _ (ap not (w .destination-on)) ∙ cond-false _ _ (ne-eqb _ _ (w .more))
+      ∙ cond-false _ _ (ap not (w .room))
+
+  -- where all serials are given out the answer is 7, whatever the waiting slot holds
+  pub all-given-out : netOf (h .board) .valid source ≡ true → netOf (h .board) .valid destination ≡ true → h .taken ≡ 4294967295 → takeDue ≡ 7
+  all-given-out on to e = cond-false _ _ (ap not on) ∙ cond-false _ _ (ap not to) ∙ cond-true _ _ (eq-eqb _ _ e)
+
+  module _ (w : Welcome h t source destination) where
+    -- the source's waiting slot
+    abbrev pub berth : ℕ
+    berth = numberAt (waitingRoom h t source)
+
+    pub berth-room : waitingRoom h t source ≡ At berth
+    berth-room = at-some _ (w .room)
+
+    pub berth-within : GoodBoard (h .board) → berth < layoutOf (h .board) .size
+    berth-within g = room-within (h .board) t (at source Waiting) berth berth-room g (w .source-on)
+
+  module _ (payload : List ℕ) where
+    pub taken-refused : {n : ℕ} → takeDue ≡ n → n ≢ 0 → takenIn h t source destination payload ≡ outcome (refusal n) t
+    unfolding takenIn
+    taken-refused e u = answered-refused (takeRows h t source destination) refusal t _ e u
+
+    pub taken-done : takeDue ≡ 0 → takenIn h t source destination payload ≡ tookIn h t source destination payload (numberAt (waitingRoom h t source))
+    unfolding takenIn
+    taken-done e = answered-done (takeRows h t source destination) refusal t _ e
+
+  -- ---- the verdict
+
+  pub take-refuses : {n : ℕ} → takeDue ≡ n → n ≢ 0 → takeVerdict h t source destination ≡ refusedBy n
+  unfolding takeVerdict
+  take-refuses e u = refused-by _ _ (λ z. u (sym e ∙ z)) ∙ ap refusedBy e
+
+  -- past the nodes and the serials, the room decides
+  pub take-into : netOf (h .board) .valid source ≡ true → netOf (h .board) .valid destination ≡ true → h .taken ≢ 4294967295
+      → takeVerdict h t source destination ≡ into (waitingRoom h t source) 0
+  unfolding takeVerdict
+  take-into on to more = by (waitingRoom h t source) refl
+    where
+      by : (r : Lowest) → waitingRoom h t source ≡ r → takeVerdict h t source destination ≡ into (waitingRoom h t source) 0
+      by (At k) e = rw (on, to, ne-eqb (h .taken) 4294967295 more, e)
+      by Nowhere e = rw (on, to, ne-eqb (h .taken) 4294967295 more, e)
+
+  module _ (v : Verdict) (e : v ≡ takeVerdict h t source destination) where
+    into-slot : (r : Lowest) → isAt r ≡ true → into r 0 .slot ≡ numberAt r
+    into-slot (At k) i = refl
+    into-slot Nowhere i = clash cc
+
+    pub take-number : v .number ≡ takeDue
+    unfolding takeVerdict
+    take-number = elim (ℕ-discrete takeDue 0) [
+      | yes z ↦ ap (λ (x : Verdict). x .number) (e ∙ judged-done z) ∙ into-none (waitingRoom h t source) (due-welcome z .room) ∙ sym z
+      | no z ↦ ap (λ (x : Verdict). x .number) (e ∙ take-refuses refl z)
+    ]
+      where
+        judged-done : takeDue ≡ 0 → takeVerdict h t source destination ≡ into (waitingRoom h t source) 0
+        judged-done z = accepted-by _ _ z
+
+        into-none : (r : Lowest) → isAt r ≡ true → into r 0 .number ≡ 0
+        into-none (At k) i = refl
+        into-none Nowhere i = clash cc
+
+    pub take-slot : takeDue ≡ 0 → v .slot ≡ numberAt (waitingRoom h t source)
+    unfolding takeVerdict
+    take-slot z = ap (λ (x : Verdict). x .slot) (e ∙ accepted-by _ _ z) ∙ into-slot (waitingRoom h t source) (due-welcome z .room)
 
 -- mark 1, the source, the destination, no hop made, the serial, and the payload, all eight bytes
 pub new-packet : (source destination serial : ℕ) (payload : List ℕ) → serial < 2 ^ 32 → length payload ≡ 8

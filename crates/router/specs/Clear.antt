@@ -6,9 +6,16 @@ use mathlib.Core.Bool.{not, cond}
 use mathlib.Core.List.{List, [], _∷_, _++_}
 use lib.Dec.{ltb, eqb}
 use lib.ListN.{length, take}
-use Rattle.table.specs.Refusals.{Row, row, firstDue, sizes-not-accepted, wrong-length}
-use Rattle.table.specs.Trailer.{dimsOk, tableSize, fresh}
-use Rattle.router.specs.Outcome.{Outcome, outcome}
+use Rattle.table.specs.declared.board.Board.{Board}
+use Rattle.table.specs.Refusals.{Row, row, sizes-not-accepted, wrong-length}
+use Rattle.table.specs.Board.{boardOk}
+use Rattle.table.specs.Layout.{tableSize}
+use Rattle.table.specs.Trailer.{fresh}
+use Rattle.table.specs.Calls.{Outcome, outcome, answered}
+
+-- the board asked for
+abbrev pub asked : ℕ → ℕ → ℕ → Board
+asked width height depth = record { width = width; height = height; depth = depth }
 
 abbrev pub depthLeftOut : ℕ
 depthLeftOut = 5
@@ -16,18 +23,19 @@ depthLeftOut = 5
 abbrev pub depthUsed : ℕ → ℕ
 depthUsed depth = cond (eqb depth 0) depthLeftOut depth
 
-abbrev pub clearRows : List ℕ → ℕ → ℕ → ℕ → List Row
-clearRows s width height depth =
-    row sizes-not-accepted (not (dimsOk width height depth))
-    ∷ row wrong-length (ltb (length s) (tableSize width height depth))
+-- the board made
+abbrev pub used : Board → Board
+used b = asked (b .width) (b .height) (depthUsed (b .depth))
+
+abbrev pub clearRows : List ℕ → Board → List Row
+clearRows s b =
+    row sizes-not-accepted (not (boardOk b))
+    ∷ row wrong-length (ltb (length s) (tableSize b))
     ∷ []
 
-unfoldable pub clearedWith : List ℕ → ℕ → ℕ → ℕ → Outcome ℕ (List ℕ)
-clearedWith s width height depth =
-    let number = firstDue (clearRows s width height depth) in
-    cond (eqb number 0)
-    (outcome 0 (take (length s - tableSize width height depth) s ++ fresh width height depth))
-    (outcome number s)
+-- for a board whose depth is not left out
+unfoldable pub clearedAs : List ℕ → Board → Outcome ℕ (List ℕ)
+clearedAs s b = answered (clearRows s b) (λ number. number) s (outcome 0 (take (length s - tableSize b) s ++ fresh b))
 
-unfoldable pub cleared : List ℕ → ℕ → ℕ → ℕ → Outcome ℕ (List ℕ)
-cleared s width height depth = clearedWith s width height (depthUsed depth)
+unfoldable pub clearedSlice : List ℕ → Board → Outcome ℕ (List ℕ)
+clearedSlice s b = clearedAs s (used b)

@@ -1,5 +1,5 @@
-pub mod Outcome
 pub mod Clear
 pub mod TakeIn
 pub mod Move
 pub mod ReadPayload
+pub mod Verdicts

@@ -1,7 +1,8 @@
 // Clear: the slice's last part becomes a fresh table.
+use table::board::Board;
 ghost use mathlib.Core.Path.{_≡_};
-ghost use Rattle.router.specs.Outcome.{outcome};
-ghost use Rattle.router.specs.Clear.{depthUsed, clearedWith, cleared};
+ghost use Rattle.table.specs.Calls.{outcome};
+ghost use Rattle.router.specs.Clear.{asked, depthUsed, clearedAs, clearedSlice};
 
 // The depth where it is left out.
 const DEPTH_LEFT_OUT: usize = 5;
@@ -15,23 +16,33 @@ fn depth_used(depth: u32) -> usize
     depth as usize
 }
 
-fn clear_with(s: &mut [u8], width: usize, height: usize, depth: usize) -> u32
-    ensures { λ r. ⌜ outcome r (now (s .exit)) ≡ clearedWith (now (s .entry)) width height depth ⌝ }
+fn clear_as(s: &mut [u8], b: Board) -> u32
+    ensures { λ r. ⌜ outcome r (now (s .exit)) ≡ clearedAs (now (s .entry)) b ⌝ }
 {
-    if !table::trailer::dims_ok(width, height, depth) {
+    if !table::board::board_ok(b) {
         return table::refusals::SIZES;
     }
-    let size = table::trailer::table_size(width, height, depth);
+    let size = table::layout::table_size(b);
     if s.len() < size {
         return table::refusals::BUFFER;
     }
     let start = s.len() - size;
-    table::trailer::clear_table(&mut s[start..], width, height, depth);
+    table::trailer::clear_table(&mut s[start..], b);
     0
 }
 
+// Makes the slice's last part a fresh table; depth 0 means 5.
+// Refusals: 8 where a size is not accepted, 9 where the slice is shorter than the table.
 pub fn clear(s: &mut [u8], width: u32, height: u32, depth: u32) -> u32
-    ensures { λ r. ⌜ outcome r (now (s .exit)) ≡ cleared (now (s .entry)) width height depth ⌝ }
+    ensures { λ r. ⌜ outcome r (now (s .exit)) ≡ clearedSlice (now (s .entry)) (asked width height depth) ⌝ }
 {
-    clear_with(s, width as usize, height as usize, depth_used(depth))
+    let depth = depth_used(depth);
+    clear_as(
+        s,
+        Board {
+            width: width as usize,
+            height: height as usize,
+            depth,
+        },
+    )
 }

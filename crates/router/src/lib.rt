@@ -3,6 +3,7 @@ pub mod clearing;
 pub mod moving;
 pub mod reading;
 pub mod taking;
+pub mod verdict;
 
 pub use clearing::clear;
 pub use moving::make_move;

@@ -1,29 +1,22 @@
 // Take in: a packet goes into the waiting slot of its source.
+use crate::verdict::Verdict;
 use network::Kind;
+use network::Lowest;
 use network::Place;
-use table::queues::Room;
 use table::trailer::Head;
 use table::trailer::Headed;
 ghost use mathlib.Core.Path.{_≡_};
 ghost use mathlib.Core.Bool.{true};
-ghost use Rattle.network.specs.declared.Kind.the-variants.{Waiting};
-ghost use Rattle.network.specs.Net.{at};
+ghost use Rattle.table.specs.Board.{netOf};
 ghost use Rattle.table.specs.Trailer.{Sized};
-ghost use Rattle.table.specs.Layout.{netOf};
-ghost use Rattle.table.specs.Queues.{roomAt};
-ghost use Rattle.router.specs.Outcome.{outcome};
-ghost use Rattle.router.specs.TakeIn.{refusal, berthOf, newRecord, takenIn, takenInSlice};
+ghost use Rattle.table.specs.Calls.{outcome};
+ghost use Rattle.router.specs.TakeIn.{refusal, waitingRoom, newRecord, takenIn, takenSlice};
+ghost use Rattle.router.specs.Verdicts.{takeVerdict};
 
 pub struct Taken {
     pub number: u32,
     pub slot: u32,
     pub serial: u32,
-}
-
-// The number of the first refusal that is due, or 0 and the slot to use.
-pub struct Berth {
-    pub number: u32,
-    pub slot: usize,
 }
 
 fn refused(number: u32) -> Taken
@@ -36,14 +29,15 @@ fn refused(number: u32) -> Taken
     }
 }
 
-fn waiting_room(t: &[u8], h: Head, source: u8) -> Room
-    requires { ⌜ Sized h (now t) ⌝ }
-    requires { ⌜ netOf h .valid source ≡ true ⌝ }
-    ensures { λ r. ⌜ r ≡ roomAt h (now (t .entry)) (at source Waiting) ⌝ }
+fn waiting_room(t: &[u8], h: Head, source: u8) -> Lowest
+    requires { ⌜ Sized (h .board) (now t) ⌝ }
+    requires { ⌜ netOf (h .board) .valid source ≡ true ⌝ }
+    ensures { λ r. ⌜ r ≡ waitingRoom h (now (t .entry)) source ⌝ }
 {
+    let b = h.board;
     table::queues::room_at(
         t,
-        h,
+        b,
         Place {
             node: source,
             kind: Kind::Waiting,
@@ -51,35 +45,22 @@ fn waiting_room(t: &[u8], h: Head, source: u8) -> Room
     )
 }
 
-fn find_berth(t: &[u8], h: Head, source: u8, destination: u8) -> Berth
-    requires { ⌜ Sized h (now t) ⌝ }
-    ensures { λ r. ⌜ r ≡ berthOf h (now (t .entry)) source destination ⌝ }
+// Would this packet be taken in, and into which slot?
+fn judge_taking(t: &[u8], h: Head, source: u8, destination: u8) -> Verdict
+    requires { ⌜ Sized (h .board) (now t) ⌝ }
+    ensures { λ r. ⌜ r ≡ takeVerdict h (now (t .entry)) source destination ⌝ }
 {
-    if !table::layout::on_board(h, source) {
-        return Berth {
-            number: table::refusals::OUT_OF_RANGE,
-            slot: 0,
-        };
+    let b = h.board;
+    if !table::board::is_node(b, source) {
+        return crate::verdict::refuse(table::refusals::OUT_OF_RANGE);
     }
-    if !table::layout::on_board(h, destination) {
-        return Berth {
-            number: table::refusals::OUT_OF_RANGE,
-            slot: 0,
-        };
+    if !table::board::is_node(b, destination) {
+        return crate::verdict::refuse(table::refusals::OUT_OF_RANGE);
     }
     if h.taken == 4294967295 {
-        return Berth {
-            number: table::refusals::ALL_TAKEN,
-            slot: 0,
-        };
+        return crate::verdict::refuse(table::refusals::ALL_TAKEN);
     }
-    let Room::At(slot) = waiting_room(t, h, source) else {
-        return Berth {
-            number: table::refusals::NO_ROOM,
-            slot: 0,
-        };
-    };
-    Berth { number: 0, slot }
+    crate::verdict::go_into(waiting_room(t, h, source), 0)
 }
 
 // A packet as it is taken in: mark, source, destination, no hops, serial, payload.
@@ -112,19 +93,19 @@ fn new_record(source: u8, destination: u8, serial: u32, payload: [u8; 8]) -> [u8
 }
 
 fn take_in_table(t: &mut [u8], h: Head, source: u8, destination: u8, payload: [u8; 8]) -> Taken
-    requires { ⌜ Sized h (now t) ⌝ }
+    requires { ⌜ Sized (h .board) (now t) ⌝ }
     ensures { λ r. ⌜ outcome r (now (t .exit)) ≡ takenIn h (now (t .entry)) source destination payload ⌝ }
 {
-    let b = find_berth(t, h, source, destination);
-    let number = b.number;
-    let slot = b.slot;
+    let v = judge_taking(t, h, source, destination);
+    let number = v.number;
+    let slot = v.slot;
     if number != 0 {
         return refused(number);
     }
     let serial = h.taken;
     let next = serial + 1;
-    let v = new_record(source, destination, serial, payload);
-    slots::write_slot(t, slot, v);
+    let packet = new_record(source, destination, serial, payload);
+    slots::write_slot(t, slot, packet);
     table::trailer::put_taken(t, next);
     Taken {
         number: 0,
@@ -133,8 +114,10 @@ fn take_in_table(t: &mut [u8], h: Head, source: u8, destination: u8, payload: [u
     }
 }
 
+// Takes a packet in at its source; its serial is the count of packets taken in before.
+// Refusals: 1 trailer not good; 2 source or destination off the board; 7 taken is 4,294,967,295; 6 the waiting slot is held.
 pub fn take_in(s: &mut [u8], source: u8, destination: u8, payload: [u8; 8]) -> Taken
-    ensures { λ r. ⌜ outcome r (now (s .exit)) ≡ takenInSlice (now (s .entry)) source destination payload ⌝ }
+    ensures { λ r. ⌜ outcome r (now (s .exit)) ≡ takenSlice (now (s .entry)) source destination payload ⌝ }
 {
     let Headed::Good(h) = table::trailer::trailer(s) else {
         return refused(table::refusals::TRAILER);

@@ -2,3 +2,4 @@ pub mod Parts
 pub mod Numbers
 pub mod SlotLaws
 pub mod ZeroLaws
+pub mod ByteLaws

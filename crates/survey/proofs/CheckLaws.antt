@@ -1,89 +1,130 @@
--- The full check's definitions: a turn of each loop, what each search's answers mean, and what the filter tells.
+-- The full check's searches: what they find together, and a turn of the loops that count held slots and look for a serial.
 -- Assumes nothing.
-use Prim.Native.Nat.{ℕ, zero, suc, _+_, _-_, _*_, _%_, _≤_, _<_}
+use Prim.Native.Nat.{ℕ, zero, suc, _+_, _-_, _≤_, _<_}
 use mathlib.Core.Path.{_≡_, refl, sym, ap, _∙_}
 use mathlib.Core.List.{List}
-use mathlib.Core.Logic.{⊎-elim}
 use mathlib.Core.Bool.{Bool, true, false, cond, _&&_, _||_}
 use native.Mathlib.Omega.{arith}
 use native.Mathlib.Decide.{ℕ-discrete}
-use native.Mathlib.Nat.{eq-or-lt-of-le, not-suc-le-zero}
+use native.Mathlib.Nat.{not-suc-le-zero}
 use native.Mathlib.Numerals.{add-one}
 use lib.Dec.{eqb}
-use lib.ListN.{length, getD, replicate}
 use mir.Syntax.{w32}
 use mir.Val.{Fits}
-use borrow.Author.Count.{below-more}
 use borrow.Author.Tests.{eqb-true, eq-eqb}
-use Rattle.network.proofs.Tests.{and-both, clash, cond-true, cond-false, neither}
+use Rattle.network.specs.declared.Lowest.{Lowest}
+use Rattle.network.specs.declared.Lowest.the-variants.{At, Nowhere}
+use Rattle.network.specs.Search.{NoneWith}
+use Rattle.network.proofs.Tests.{and-both, clash, cond-true, neither}
+use Rattle.network.proofs.SearchLaws.{at-lowest, nowhere-none, none-nowhere}
 use Rattle.table.specs.declared.trailer.Head.{Head}
-use Rattle.table.specs.Trailer.{Sized}
-use Rattle.table.specs.Layout.{GoodHead, layoutOf}
-use Rattle.table.proofs.Sizes.{slots-most}
-use Rattle.survey.specs.declared.checking.Fault.the-variants.{At, Nowhere}
-use Rattle.survey.specs.Check.{heldAt, serialAt, firstOf, LowestWith, NoneWith, hasSerial, heldBelow}
-use Rattle.survey.specs.Filter.{flagAt, raised, Met}
-use Rattle.survey.proofs.FilterLaws.{raised-full, raised-bytes, raised-up, raised-kept}
+use Rattle.table.specs.Board.{GoodBoard}
+use Rattle.table.specs.Layout.{layoutOf}
+use Rattle.table.proofs.BoardLaws.{slots-most}
+use Rattle.survey.specs.declared.checking.Checked.{Checked}
+use Rattle.survey.specs.declared.checking.Checked.the-variants.{Passes, FaultAt}
+use Rattle.survey.specs.Check.{
+  heldAt,
+  serialAt,
+  spoiledAt,
+  firstSpoiled,
+  hasSerial,
+  repeatsAt,
+  firstRepeat,
+  heldBelow,
+  miscount,
+  orElse,
+  faultOr,
+  faultIn,
+  checkedIn,
+}
 
-pub slots-inside : {h : Head} {t : List ℕ} → Sized h t → 16 * layoutOf h .size ≤ length t
-unfolding layoutOf
-slots-inside z = omega (arith, z .full)
+-- ---- the first fault
 
--- ---- the lowest slot with a property
+or-none : (r next : Lowest) → orElse r next ≡ Nowhere → (r ≡ Nowhere) × (next ≡ Nowhere)
+or-none (At k) next e = clash cc
+or-none Nowhere next e = (refl, e)
 
-module _ (p : ℕ → Bool) where
-  pub first-step : (k e : ℕ) → k < e → firstOf p k (e - k) ≡ cond (p k) (At k) (firstOf p (k + 1) (e - (k + 1)))
-  first-step k e h =
-      let q : e - k ≡ suc (e - (k + 1)) = omega arith in
-      ap (firstOf p k) q ∙ rw add-one refl
+pub or-found : (r next : Lowest) {k : ℕ} → r ≡ At k → r ≡ orElse r next
+or-found r next e = e ∙ sym (ap (λ (x : Lowest). orElse x next) e)
 
-  -- those from b on are those from b + 1 on, and b
-  from-next : (b k : ℕ) → p b ≡ false → ((j : ℕ) → suc b ≤ j → j < k → p j ≡ false) → (j : ℕ) → b ≤ j → j < k → p j ≡ false
-  from-next b k q rest j l g = ⊎-elim (λ e. ap p (sym e) ∙ q) (λ e. rest j e g) (eq-or-lt-of-le l)
+pub or-nothing : (r next : Lowest) → r ≡ Nowhere → next ≡ orElse r next
+or-nothing r next e = sym (ap (λ (x : Lowest). orElse x next) e)
 
-  pub first-lowest : (b n k : ℕ) → firstOf p b n ≡ At k → LowestWith p b n k
-  first-lowest b zero k e = clash cc
-  first-lowest b (suc n) k e = here (first-lowest (suc b) n k) (p b) refl e
+pub or-last : (r : Lowest) → r ≡ orElse r Nowhere
+or-last (At k) = refl
+or-last Nowhere = refl
+
+-- what stands first, or what comes after it, is at most n
+or-most : {n : ℕ} (k : ℕ) (r next : Lowest) → ((j : ℕ) → r ≡ At j → j ≤ n) → ((j : ℕ) → next ≡ At j → j ≤ n) → orElse r next ≡ At k → k ≤ n
+or-most k (At j) next f g e = let q : j ≡ k = cc in rw q at (f j refl)
+or-most k Nowhere next f g e = g k e
+
+-- no search finds anything
+pub record Faultless (h : Head) (t : List ℕ) : Type 0 where
+  pub sound : NoneWith (spoiledAt h t) 0 (layoutOf (h .board) .size)
+  pub single : NoneWith (repeatsAt t) 0 (layoutOf (h .board) .size)
+  pub counted : h .taken - h .delivered ≡ heldBelow t (layoutOf (h .board) .size)
+
+module _ (h : Head) (t : List ℕ) where
+  abbrev size : ℕ
+  size = layoutOf (h .board) .size
+
+  miscount-none : miscount h t ≡ Nowhere → h .taken - h .delivered ≡ heldBelow t size
+  unfolding miscount
+  miscount-none e = go (eqb (h .taken - h .delivered) (heldBelow t size)) refl e
     where
-      here : (firstOf p (suc b) n ≡ At k → LowestWith p (suc b) n k) → (z : Bool) → p b ≡ z
-          → cond z (At b) (firstOf p (suc b) n) ≡ At k → LowestWith p b (suc n) k
-      here rest true q e =
-          let s : b ≡ k = cc in
-          record { from = omega arith; below = omega arith; has = ap p (sym s) ∙ q; least = λ j l g. absurd (omega arith) }
-      here rest false q e =
-          let i = rest e in
-          record { from = omega (arith, i .from); below = omega (arith, i .below); has = i .has; least = from-next b k q (i .least) }
+      go : (b : Bool) → eqb (h .taken - h .delivered) (heldBelow t size) ≡ b → cond b Nowhere (At size) ≡ Nowhere → h .taken - h .delivered ≡ heldBelow t size
+      go true q f = eqb-true _ _ q
+      go false q f = clash cc
 
-  pub first-none : (b n : ℕ) → firstOf p b n ≡ Nowhere → NoneWith p b n
-  first-none b zero e = record { lacks = λ j l g. absurd (omega arith) }
-  first-none b (suc n) e = here (first-none (suc b) n) (p b) refl e
+  miscount-most : (k : ℕ) → miscount h t ≡ At k → k ≤ size
+  unfolding miscount
+  miscount-most k e = go (eqb (h .taken - h .delivered) (heldBelow t size)) e
     where
-      here : (firstOf p (suc b) n ≡ Nowhere → NoneWith p (suc b) n) → (z : Bool) → p b ≡ z
-          → cond z (At b) (firstOf p (suc b) n) ≡ Nowhere → NoneWith p b (suc n)
-      here rest true q e = clash cc
-      here rest false q e = record { lacks = λ j l g. from-next b (b + suc n) q (λ i u v. rest e .lacks i u (omega arith)) j l g }
+      go : (b : Bool) → cond b Nowhere (At size) ≡ At k → k ≤ size
+      go true f = clash cc
+      go false f = let q : size ≡ k = cc in omega arith
 
-  -- and the other way
-  pub lowest-first : (b n k : ℕ) → LowestWith p b n k → firstOf p b n ≡ At k
-  lowest-first b zero k l = absurd (omega (arith, l .from, l .below))
-  lowest-first b (suc n) k l =
-      ⊎-elim
-      (λ e. cond-true (At b) (firstOf p (suc b) n) (ap p e ∙ l .has) ∙ ap At e)
-      (λ e.
-      cond-false (At b) (firstOf p (suc b) n) (l .least b (omega arith) e)
-      ∙ lowest-first (suc b) n k (record { from = e; below = omega (arith, l .below); has = l .has; least = λ j m g. l .least j (omega arith) g }))
-      (eq-or-lt-of-le (l .from))
+  pub fault-none : faultIn h t ≡ Nowhere → Faultless h t
+  unfolding faultIn firstSpoiled firstRepeat
+  fault-none e =
+      let a = or-none (firstSpoiled h t) _ e in
+      let b = or-none (firstRepeat h t) _ (a .1) in
+      record {
+        sound = nowhere-none (spoiledAt h t) 0 size (a .0);
+        single = nowhere-none (repeatsAt t) 0 size (b .0);
+        counted = miscount-none (or-none (miscount h t) Nowhere (b .1) .0);
+      }
 
-  pub none-first : (b n : ℕ) → NoneWith p b n → firstOf p b n ≡ Nowhere
-  none-first b zero l = refl
-  none-first b (suc n) l =
-      cond-false (At b) (firstOf p (suc b) n) (l .lacks b (omega arith) (omega arith))
-      ∙ none-first (suc b) n (record { lacks = λ j m g. l .lacks j (omega arith) (omega arith) })
+  pub none-fault : Faultless h t → faultIn h t ≡ Nowhere
+  unfolding faultIn firstSpoiled firstRepeat miscount
+  none-fault f =
+      rw (none-nowhere (spoiledAt h t) 0 size (f .sound), none-nowhere (repeatsAt t) 0 size (f .single), eq-eqb (h .taken - h .delivered) (heldBelow t size) (f .counted))
 
--- a slot of the table fits a `u32`
-pub fault-fits : (h : Head) (p : ℕ → Bool) (k : ℕ) → GoodHead h → firstOf p 0 (layoutOf h .size) ≡ At k → Fits w32 k
-unfolding layoutOf
-fault-fits h p k g e = record { fits = omega (arith, first-lowest p 0 (layoutOf h .size) k e .below, slots-most g) }
+  pub fault-most : (k : ℕ) → faultIn h t ≡ At k → k ≤ size
+  unfolding faultIn firstSpoiled firstRepeat
+  fault-most k e =
+      or-most k (firstSpoiled h t) _ (λ j q. omega (arith, at-lowest (spoiledAt h t) 0 size j q .below))
+      (λ j. or-most j (firstRepeat h t) _ (λ i q. omega (arith, at-lowest (repeatsAt t) 0 size i q .below))
+      (λ i. or-most i (miscount h t) Nowhere miscount-most (λ m q. clash cc)))
+      e
+
+  pub fault-fits : (k : ℕ) → GoodBoard (h .board) → faultIn h t ≡ At k → Fits w32 k
+  fault-fits k g e = record { fits = omega (arith, fault-most k e, slots-most (h .board) g) }
+
+  -- the table passes exactly where there is no fault
+  pub passes-fault : checkedIn h t ≡ Passes → faultIn h t ≡ Nowhere
+  unfolding checkedIn
+  passes-fault e = go (faultIn h t) e
+    where
+      go : (r : Lowest) → faultOr FaultAt Passes r ≡ Passes → r ≡ Nowhere
+      go (At k) q = clash cc
+      go Nowhere q = refl
+
+  pub fault-passes : faultIn h t ≡ Nowhere → checkedIn h t ≡ Passes
+  unfolding checkedIn
+  fault-passes e = ap (faultOr FaultAt Passes) e
 
 -- ---- held slots counted, and their serials looked for
 
@@ -125,41 +166,3 @@ module _ (t : List ℕ) (s : ℕ) where
         | yes i ↦ let f = and-both (rw i at p) (eq-eqb (serialAt t n) s (rw i at q)) in clash (cc (r .0))
         | no i ↦ serial-unused n (r .1) j (omega arith) p q
       ]
-
--- ---- the filter
-
-module _ {t flags : List ℕ} {k : ℕ} (m : Met t flags k) where
-  -- a flag that is down tells that no held slot below has the serial
-  pub unmet : (s : ℕ) → flagAt flags (s % 4096) ≡ false → hasSerial t s k ≡ false
-  unmet s e = unused-serial t s k (λ j l p q. let f = m .up j l p in clash cc)
-
-  met-more : (heldAt t k ≡ true → flagAt flags (serialAt t k % 4096) ≡ true) → Met t flags (k + 1)
-  met-more f = record { full = m .full; bytes = m .bytes; up = below-more _ k (m .up) f }
-
-  -- a turn of the loop: slot k is not held, or its serial's flag is up
-  pub met-skip : heldAt t k ≡ false → Met t flags (k + 1)
-  met-skip e = met-more (λ p. clash cc)
-
-  pub met-up : {s : ℕ} → s ≡ serialAt t k → flagAt flags (s % 4096) ≡ true → Met t flags (k + 1)
-  met-up e f = met-more (λ p. rw (← e) f)
-
-  met-raised : (b : ℕ) → b < 4096 → flagAt flags b ≡ false → Met t (raised flags b) k
-  met-raised b l e = record {
-    full = raised-full flags (m .full) (m .bytes) b l e;
-    bytes = raised-bytes flags (m .full) (m .bytes) b l e;
-    up = λ j h p. raised-kept flags (m .full) (m .bytes) b l e _ (m .up j h p);
-  }
-
--- or it is raised
-pub met-raise : {t flags : List ℕ} {k s : ℕ} → Met t flags k → s ≡ serialAt t k → flagAt flags (s % 4096) ≡ false → Met t (raised flags (s % 4096)) (k + 1)
-met-raise {flags = flags} {s = s} m e f =
-    let l : s % 4096 < 4096 = omega arith in
-    met-up (met-raised m (s % 4096) l f) e (raised-up flags (m .full) (m .bytes) (s % 4096) l f)
-
-pub met-start : (t : List ℕ) → Met t (replicate 512 0) 0
-met-start t = record { full = refl; bytes = λ i. rw (no-flags 512 i) (omega arith); up = λ j l. absurd (not-suc-le-zero l) }
-  where
-    no-flags : (n i : ℕ) → _≡_ {A = ℕ} (getD (replicate n 0) i 0) 0
-    no-flags zero i = refl
-    no-flags (suc n) zero = refl
-    no-flags (suc n) (suc i) = no-flags n i

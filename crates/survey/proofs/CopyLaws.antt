@@ -1,6 +1,6 @@
 -- The outward copy: where it is made, what it leaves where it is refused, what it shows of a slot, and how it is made slot by slot.
 -- Assumes nothing.
-use Prim.Native.Nat.{ℕ, zero, suc, _+_, _*_, _≤_, _<_}
+use Prim.Native.Nat.{ℕ, zero, suc, _+_, _-_, _*_, _≤_, _<_}
 use mathlib.Core.Path.{_≡_, refl, sym, ap, _∙_}
 use mathlib.Core.Logic.{_≢_, _⊎_, ⊎-elim}
 use mathlib.Core.List.{List}
@@ -11,6 +11,8 @@ use lib.Dec.{eqb}
 use borrow.Author.Tests.{eqb-true}
 use lib.ListN.{length, getD, take, drop, replicate, length-append, length-take, length-drop}
 use lib.Seq.{take-all, length-take-le, take-at, drop-at}
+use Rattle.network.specs.declared.Lowest.{Lowest}
+use Rattle.network.specs.declared.Lowest.the-variants.{At, Nowhere}
 use Rattle.network.proofs.Tests.{clash}
 use Rattle.slots.specs.Bytes.{part}
 use Rattle.slots.specs.Slots.{slotAt, withSlot, emptySlot, zeros}
@@ -23,51 +25,94 @@ use Rattle.table.specs.Trailer.{trailerOf}
 use Rattle.table.specs.Layout.{layoutOf}
 use Rattle.table.specs.Packets.{fieldsOf}
 use Rattle.table.proofs.PacketLaws.{fields-same, mark-not-zero}
-use Rattle.router.specs.Outcome.{outcome}
-use Rattle.survey.specs.declared.checking.Checked.{Checked}
-use Rattle.survey.specs.declared.checking.Checked.the-variants.{Passes, BadTrailer, FaultAt}
-use Rattle.survey.specs.declared.copying.Copied.the-variants as copied
-use Rattle.survey.specs.Check.{checkedIn}
-use Rattle.survey.specs.Copy.{withoutPayload, veiled, copiedAfter, copiedIn, copiedBy, copiedSlice}
+use Rattle.table.specs.Calls.{Outcome, outcome}
+use Rattle.survey.specs.declared.copying.Copied.{Copied}
+use Rattle.survey.specs.declared.copying.Copied.the-variants.{Done, BadTrailer, FaultAt, WrongLength}
+use Rattle.survey.specs.Check.{faultIn, faultOr, unlessFault, readBy}
+use Rattle.survey.specs.Copy.{withoutPayload, veiled, copiedIn, copiedSlice}
 
 -- ---- made: the second buffer has exactly the table's length
 
-pub copied-exactly : (h : Head) (t out : List ℕ) → copiedIn h t out .answer ≡ copied.Done → length out ≡ length t
-unfolding copiedIn
-copied-exactly h t out = by-check (checkedIn h t)
-  where
-    by-length : (m n : ℕ) (copy : List ℕ) → cond (eqb m n) (outcome copied.Done copy) (outcome copied.WrongLength out) .answer ≡ copied.Done → m ≡ n
-    by-length m n copy u = go (eqb m n) refl u
-      where
-        go : (b : Bool) → eqb m n ≡ b → cond b (outcome copied.Done copy) (outcome copied.WrongLength out) .answer ≡ copied.Done → m ≡ n
-        go true e u = eqb-true m n e
-        go false e u = clash cc
+module _ (out : List ℕ) (h : Head) (t : List ℕ) where
+  abbrev copyBy : Bool → Outcome Copied (List ℕ)
+  copyBy b = cond b (outcome Done (veiled (layoutOf (h .board) .size) t)) (outcome WrongLength out)
 
-    by-check : (c : Checked) → copiedAfter h t out c .answer ≡ copied.Done → length out ≡ length t
-    by-check Passes u = by-length _ _ (veiled (layoutOf h .size) t) u
-    by-check BadTrailer u = clash cc
-    by-check (FaultAt place) u = clash cc
+  pub copied-exactly : copiedIn out h t .answer ≡ Done → length out ≡ length t
+  unfolding copiedIn
+  copied-exactly u = go (eqb (length out) (length t)) refl u
+    where
+      go : (b : Bool) → eqb (length out) (length t) ≡ b → copyBy b .answer ≡ Done → length out ≡ length t
+      go true e v = eqb-true (length out) (length t) e
+      go false e v = clash cc
 
--- ---- refused: the second buffer is as it was
+  done-veiled : copiedIn out h t .answer ≡ Done → copiedIn out h t .bytes ≡ veiled (layoutOf (h .board) .size) t
+  unfolding copiedIn
+  done-veiled u = go (eqb (length out) (length t)) u
+    where
+      go : (b : Bool) → copyBy b .answer ≡ Done → copyBy b .bytes ≡ veiled (layoutOf (h .board) .size) t
+      go true v = refl
+      go false v = clash cc
 
-pub refused-unwritten : (s out : List ℕ) → copiedSlice s out .answer ≢ copied.Done → copiedSlice s out .bytes ≡ out
-unfolding copiedSlice copiedIn
+  -- ---- refused: the second buffer is as it was
+
+  wrong-unwritten : copiedIn out h t .answer ≢ Done → copiedIn out h t .bytes ≡ out
+  unfolding copiedIn
+  wrong-unwritten u = go (eqb (length out) (length t)) u
+    where
+      go : (b : Bool) → copyBy b .answer ≢ Done → copyBy b .bytes ≡ out
+      go true v = absurd (v refl)
+      go false v = refl
+
+pub refused-unwritten : (s out : List ℕ) → copiedSlice s out .answer ≢ Done → copiedSlice s out .bytes ≡ out
+unfolding copiedSlice
 refused-unwritten s out = on (trailerOf s)
   where
-    by-length : (b : Bool) (copy : List ℕ)
-        → cond b (outcome copied.Done copy) (outcome copied.WrongLength out) .answer ≢ copied.Done
-        → cond b (outcome copied.Done copy) (outcome copied.WrongLength out) .bytes ≡ out
-    by-length true copy u = absurd (u refl)
-    by-length false copy u = refl
+    fault : ℕ → Outcome Copied (List ℕ)
+    fault place = outcome (FaultAt place) out
 
-    by-check : (h : Head) (t : List ℕ) (c : Checked) → copiedAfter h t out c .answer ≢ copied.Done → copiedAfter h t out c .bytes ≡ out
-    by-check h t Passes u = by-length (eqb (length out) (length t)) (veiled (layoutOf h .size) t) u
-    by-check h t BadTrailer u = refl
-    by-check h t (FaultAt place) u = refl
+    by-fault : (h : Head) (t : List ℕ) (r : Lowest) → faultOr fault (copiedIn out h t) r .answer ≢ Done → faultOr fault (copiedIn out h t) r .bytes ≡ out
+    by-fault h t (At place) u = refl
+    by-fault h t Nowhere u = wrong-unwritten out h t u
 
-    on : (x : Headed) → copiedBy s out x .answer ≢ copied.Done → copiedBy s out x .bytes ≡ out
+    on : (x : Headed) → readBy s (outcome BadTrailer out) (unlessFault fault (copiedIn out)) x .answer ≢ Done
+        → readBy s (outcome BadTrailer out) (unlessFault fault (copiedIn out)) x .bytes ≡ out
     on Bad u = refl
-    on (Good h) u = by-check h _ (checkedIn h _) u
+    on (Good h) u = by-fault h _ (faultIn h _) u
+
+-- a copy is made of a table that passes, into a buffer of its length
+pub record Made (s out : List ℕ) : Type 0 where
+  pub h : Head
+  pub head : trailerOf s ≡ Good h
+  pub passes : faultIn h (drop (length s - h .size) s) ≡ Nowhere
+  pub exactly : length out ≡ length (drop (length s - h .size) s)
+  pub bytes : copiedSlice s out .bytes ≡ veiled (layoutOf (h .board) .size) (drop (length s - h .size) s)
+
+pub copied-made : (s out : List ℕ) → copiedSlice s out .answer ≡ Done → Made s out
+unfolding copiedSlice
+copied-made s out u = on (trailerOf s) refl u
+  where
+    fault : ℕ → Outcome Copied (List ℕ)
+    fault place = outcome (FaultAt place) out
+
+    by : Headed → Outcome Copied (List ℕ)
+    by = readBy s (outcome BadTrailer out) (unlessFault fault (copiedIn out))
+
+    of-fault : (h : Head) → trailerOf s ≡ Good h → (r : Lowest) → faultIn h (drop (length s - h .size) s) ≡ r
+        → faultOr fault (copiedIn out h (drop (length s - h .size) s)) r .answer ≡ Done → Made s out
+    of-fault h e (At place) f v = clash cc
+    of-fault h e Nowhere f v =
+        let t = drop (length s - h .size) s in
+        record {
+          h = h;
+          head = e;
+          passes = f;
+          exactly = copied-exactly out h t v;
+          bytes = ap (λ (o : Outcome Copied (List ℕ)). o .bytes) (ap by e ∙ ap (faultOr fault (copiedIn out h t)) f) ∙ done-veiled out h t v;
+        }
+
+    on : (x : Headed) → trailerOf s ≡ x → by x .answer ≡ Done → Made s out
+    on Bad e v = clash cc
+    on (Good h) e v = of-fault h e (faultIn h _) refl v
 
 -- ---- a slot
 

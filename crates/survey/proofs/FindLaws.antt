@@ -1,147 +1,106 @@
--- Find's definitions: code 1 is looked at, a turn of each loop, and what each answer means. Both searches are searches for the lowest number with a property.
+-- What find's answers mean: the move named is accepted, nothing lower is, and where none is named none is accepted.
 -- Assumes nothing.
-use Prim.Native.Nat.{ℕ, zero, suc, _+_, _-_, _<_}
+use Prim.Native.Nat.{ℕ, suc, _+_, _≤_, _<_}
 use mathlib.Core.Path.{_≡_, refl, sym, ap, _∙_}
+use mathlib.Core.Logic.{_≢_, _⊎_, inl, inr}
 use mathlib.Core.List.{List}
-use mathlib.Core.Bool.{Bool, true, false, cond}
+use mathlib.Core.Bool.{true, false}
 use native.Mathlib.Omega.{arith}
-use native.Mathlib.Numerals.{add-one}
-use lib.Dec.{eqb}
+use native.Mathlib.Decide.{decLt}
 use borrow.Author.Tests.{eqb-true, eqb-false, eq-eqb, ne-eqb}
+use Rattle.network.specs.declared.Lowest.{Lowest}
+use Rattle.network.specs.declared.Lowest.the-variants.{At, Nowhere}
+use Rattle.network.specs.Search.{lowestWith, isAt, numberAt, IsLowest}
 use Rattle.network.proofs.Tests.{clash}
+use Rattle.network.proofs.SearchLaws.{at-some, at-none, at-lowest, nowhere-none, none-nowhere}
 use Rattle.table.specs.declared.trailer.Head.{Head}
-use Rattle.router.specs.Move.{verdictOf}
-use Rattle.survey.specs.declared.checking.Fault.{Fault}
-use Rattle.survey.specs.declared.checking.Fault.the-variants.{At, Nowhere}
-use Rattle.survey.specs.declared.finding.Accepted.{Accepted}
-use Rattle.survey.specs.declared.finding.Accepted.the-variants.{Code, Nothing}
-use Rattle.survey.specs.declared.finding.Found.{Found}
+use Rattle.table.specs.Board.{netOf}
+use Rattle.table.specs.Layout.{layoutOf}
+use Rattle.table.proofs.BoardLaws.{net-laws}
+use Rattle.router.specs.Move.{moveDue}
+use Rattle.router.proofs.MoveLaws.{due-granted}
 use Rattle.survey.specs.declared.finding.Found.the-variants.{Move, NothingHeld}
-use Rattle.survey.specs.Check.{firstOf, LowestWith}
-use Rattle.survey.specs.Find.{firstCode, orNext, firstMove, Acceptable, Stuck, Lowest}
-use Rattle.survey.proofs.CheckLaws.{first-lowest, first-none, none-first}
-
--- a packet that can enter is found: code 1 is the only one that a waiting packet has
-pub entering-found : (h : Head) (t : List ℕ) (slot n : ℕ) → verdictOf h t slot 1 .number ≡ 0 → firstMove h t slot (suc n) ≡ Move slot 1
-entering-found h t slot n e = rw (eq-eqb (verdictOf h t slot 1 .number) 0 e)
-
--- ---- a turn of each loop
+use Rattle.survey.specs.Find.{accepts, firstCode, movable, moveAt, foundIn}
 
 module _ (h : Head) (t : List ℕ) where
-  pub code-step : (slot k e : ℕ) → k < e
-      → firstCode h t slot k (e - k) ≡ cond (eqb (verdictOf h t slot k .number) 0) (Code k) (firstCode h t slot (k + 1) (e - (k + 1)))
-  code-step slot k e l =
-      let q : e - k ≡ suc (e - (k + 1)) = omega arith in
-      ap (firstCode h t slot k) q ∙ rw add-one refl
+  abbrev size : ℕ
+  size = layoutOf (h .board) .size
 
-  pub move-step : (k e : ℕ) {a : Accepted} → k < e → firstCode h t k 1 7 ≡ a
-      → firstMove h t k (e - k) ≡ orNext k a (firstMove h t (k + 1) (e - (k + 1)))
-  move-step k e l f =
-      let q : e - k ≡ suc (e - (k + 1)) = omega arith in
-      ap (firstMove h t k) q ∙ rw add-one (ap (λ (a : Accepted). orNext k a (firstMove h t (suc k) (e - suc k))) f)
+  abbrev codes : ℕ
+  codes = suc (netOf (h .board) .last)
 
--- ---- what the answers mean
+  -- a move that is accepted is of a slot that there is, by a code that there is
+  due-slot : (slot code : ℕ) → moveDue h t slot code ≡ 0 → slot < size
+  due-slot slot code e = due-granted h t slot code e .named .inside
 
--- a search's answer as a Bool, and as a code
-abbrev some : Fault → Bool
-some (At k) = true
-some Nowhere = false
+  due-code : (slot code : ℕ) → moveDue h t slot code ≡ 0 → code < codes
+  due-code slot code e = let l = net-laws (h .board) .known-last code (due-granted h t slot code e .known) in omega arith
 
-abbrev codeOf : Fault → ℕ
-codeOf (At code) = code
-codeOf Nowhere = 0
+  pub code-below : (slot code : ℕ) → firstCode h t slot ≡ At code → code < codes
+  unfolding firstCode
+  code-below slot code e = omega (arith, at-lowest (accepts h t slot) 0 codes code e .below)
 
-abbrev codeAt : Fault → Accepted
-codeAt (At code) = Code code
-codeAt Nowhere = Nothing
+  -- a slot has a code exactly where some move of it is accepted
+  still : (slot : ℕ) → movable h t slot ≡ false → (code : ℕ) → moveDue h t slot code ≢ 0
+  unfolding firstCode
+  still slot e code q =
+      let none = nowhere-none (accepts h t slot) 0 codes (at-none _ e) in
+      eqb-false _ 0 (none .lacks code (omega arith) (omega (arith, due-code slot code q))) q
 
-some-at : (f : Fault) → some f ≡ true → f ≡ At (codeOf f)
-some-at (At k) q = refl
-some-at Nowhere q = clash cc
+  not-movable : (slot : ℕ) → ((code : ℕ) → moveDue h t slot code ≢ 0) → movable h t slot ≡ false
+  unfolding firstCode
+  not-movable slot u = ap isAt (none-nowhere (accepts h t slot) 0 codes (record { lacks = λ code l m. ne-eqb _ 0 (u code) }))
 
-none-nowhere : (f : Fault) → some f ≡ false → f ≡ Nowhere
-none-nowhere (At k) q = clash cc
-none-nowhere Nowhere q = refl
-
-module _ (h : Head) (t : List ℕ) where
-  -- would that code be accepted for the slot? would any?
-  abbrev takes : ℕ → ℕ → Bool
-  takes slot code = eqb (verdictOf h t slot code .number) 0
-
-  abbrev goes : ℕ → Bool
-  goes slot = some (firstOf (takes slot) 1 7)
-
-  abbrev moveAt : Fault → Found
-  moveAt (At slot) = Move slot (codeOf (firstOf (takes slot) 1 7))
-  moveAt Nowhere = NothingHeld
-
-  code-search : (slot b n : ℕ) → firstCode h t slot b n ≡ codeAt (firstOf (takes slot) b n)
-  code-search slot b zero = refl
-  code-search slot b (suc n) = by (code-search slot (suc b) n) (takes slot b)
-    where
-      by : {rest : Accepted} → rest ≡ codeAt (firstOf (takes slot) (suc b) n) → (z : Bool)
-          → cond z (Code b) rest ≡ codeAt (cond z (At b) (firstOf (takes slot) (suc b) n))
-      by e true = refl
-      by e false = e
-
-  move-search : (b n : ℕ) → firstMove h t b n ≡ moveAt (firstOf goes b n)
-  move-search b zero = refl
-  move-search b (suc n) =
-      ap (λ (a : Accepted). orNext b a (firstMove h t (suc b) n)) (code-search b 1 7) ∙ by (move-search (suc b) n) (firstOf (takes b) 1 7) refl
-    where
-      by : {rest : Found} → rest ≡ moveAt (firstOf goes (suc b) n) → (f : Fault) → firstOf (takes b) 1 7 ≡ f
-          → orNext b (codeAt f) rest ≡ moveAt (cond (some f) (At b) (firstOf goes (suc b) n))
-      by e (At code) q = ap (Move b) (sym (ap codeOf q))
-      by e Nowhere q = e
-
-  goes-not : (slot : ℕ) → goes slot ≡ false → Stuck h t 8 slot
-  goes-not slot e =
-      let none = first-none (takes slot) 1 7 (none-nowhere _ e) in
-      record { refused = λ code l u. eqb-false _ 0 (none .lacks code l (omega arith)) }
-
-  not-goes : (slot : ℕ) → Stuck h t 8 slot → goes slot ≡ false
-  not-goes slot s = ap some (none-first (takes slot) 1 7 (record { lacks = λ code l u. ne-eqb _ 0 (s .refused code l (omega arith)) }))
-
-  module _ (n : ℕ) where
-    module _ (slot code : ℕ) (e : firstMove h t 0 n ≡ Move slot code) where
-      named : (firstOf goes 0 n ≡ At slot) × (codeOf (firstOf (takes slot) 1 7) ≡ code)
-      named = by (firstOf goes 0 n) (sym (move-search 0 n) ∙ e)
-        where
-          by : (f : Fault) → moveAt f ≡ Move slot code → (f ≡ At slot) × (codeOf (firstOf (takes slot) 1 7) ≡ code)
-          by (At k) q =
-              let r : k ≡ slot = cc in
-              let c : codeOf (firstOf (takes k) 1 7) ≡ code = cc in
-              (ap At r, rw r at c)
-          by Nowhere q = clash cc
-
-      slots : LowestWith goes 0 n slot
-      slots = first-lowest goes 0 n slot (named .0)
-
-      codes : LowestWith (takes slot) 1 7 code
-      codes = first-lowest (takes slot) 1 7 code (some-at _ (slots .has) ∙ ap At (named .1))
-
-      pub found-accepted : Acceptable h t n slot code
-      found-accepted = record {
-        inside = omega (arith, slots .below);
-        code-low = codes .from;
-        code-high = omega (arith, codes .below);
-        accepted = eqb-true _ 0 (codes .has);
-      }
-
-      pub found-lowest : Lowest h t slot code
-      found-lowest = record {
-        lower-slots = λ j l. goes-not j (slots .least j (omega arith) l);
-        lower-codes = record { refused = λ c l u. eqb-false _ 0 (codes .least c l u) };
-      }
-
-    pub found-nothing : firstMove h t 0 n ≡ NothingHeld → (slot : ℕ) → slot < n → Stuck h t 8 slot
-    found-nothing e slot l =
-        let none = first-none goes 0 n (by (firstOf goes 0 n) (sym (move-search 0 n) ∙ e)) in
-        goes-not slot (none .lacks slot (omega arith) (omega arith))
+  module _ (slot code : ℕ) (e : foundIn h t ≡ Move slot code) where
+    named : (lowestWith (movable h t) 0 size ≡ At slot) × (numberAt (firstCode h t slot) ≡ code)
+    unfolding foundIn
+    named = by (lowestWith (movable h t) 0 size) e
       where
-        by : (f : Fault) → moveAt f ≡ NothingHeld → f ≡ Nowhere
-        by (At k) q = clash cc
-        by Nowhere q = refl
+        by : (r : Lowest) → moveAt h t r ≡ Move slot code → (r ≡ At slot) × (numberAt (firstCode h t slot) ≡ code)
+        by (At k) q =
+            let r : k ≡ slot = cc in
+            let c : numberAt (firstCode h t k) ≡ code = cc in
+            (ap At r, rw r at c)
+        by Nowhere q = clash cc
 
-    pub nothing-found : ((slot : ℕ) → slot < n → Stuck h t 8 slot) → firstMove h t 0 n ≡ NothingHeld
-    nothing-found s = move-search 0 n ∙ ap moveAt (none-first goes 0 n (record { lacks = λ j l u. not-goes j (s j (omega arith)) }))
+    slots : IsLowest (movable h t) 0 size slot
+    slots = at-lowest (movable h t) 0 size slot (named .0)
+
+    code-found : IsLowest (accepts h t slot) 0 codes code
+    unfolding firstCode
+    code-found = at-lowest (accepts h t slot) 0 codes code (at-some _ (slots .has) ∙ ap At (named .1))
+
+    pub found-accepted : moveDue h t slot code ≡ 0
+    found-accepted = eqb-true _ 0 (code-found .has)
+
+    -- nothing lower is: no lower slot, and for the slot no lower code
+    pub found-lowest : (j c : ℕ) → moveDue h t j c ≡ 0 → (slot < j) ⊎ ((slot ≡ j) × (code ≤ c))
+    found-lowest j c q = elim (decLt slot j) [
+      | yes l ↦ inl l
+      | no l ↦ elim (decLt j slot) [
+        | yes m ↦ absurd (still j (slots .least j (omega arith) m) c q)
+        | no m ↦
+            let same : slot ≡ j = omega arith in
+            inr (same, lowest-code c (rw (← same) at q))
+      ]
+    ]
+      where
+        lowest-code : (c : ℕ) → moveDue h t slot c ≡ 0 → code ≤ c
+        lowest-code c q = elim (decLt c code) [
+          | yes l ↦ absurd (eqb-false _ 0 (code-found .least c (omega arith) l) q)
+          | no l ↦ omega arith
+        ]
+
+  pub found-nothing : foundIn h t ≡ NothingHeld → (slot code : ℕ) → moveDue h t slot code ≢ 0
+  unfolding foundIn
+  found-nothing e slot code q =
+      let none = nowhere-none (movable h t) 0 size (by (lowestWith (movable h t) 0 size) e) in
+      still slot (none .lacks slot (omega arith) (omega (arith, due-slot slot code q))) code q
+    where
+      by : (r : Lowest) → moveAt h t r ≡ NothingHeld → r ≡ Nowhere
+      by (At k) q = clash cc
+      by Nowhere q = refl
+
+  pub nothing-found : ((slot code : ℕ) → moveDue h t slot code ≢ 0) → foundIn h t ≡ NothingHeld
+  unfolding foundIn
+  nothing-found u = ap (moveAt h t) (none-nowhere (movable h t) 0 size (record { lacks = λ j l m. not-movable j (u j) }))

@@ -1,5 +1,6 @@
 pub mod FilterLaws
 pub mod CheckLaws
+pub mod MetLaws
 pub mod Meaning
 pub mod FindLaws
 pub mod CopyLaws

@@ -19,35 +19,20 @@ use Rattle.network.proofs.Course.{means-good}
 use Rattle.network.proofs.Tests.{clash, and-yes, and-no}
 use Rattle.slots.specs.Slots.{slotAt, zeros}
 use Rattle.table.specs.declared.trailer.Head.{Head}
-use Rattle.table.specs.Layout.{GoodHead, netOf, layoutOf}
+use Rattle.table.specs.Board.{GoodBoard, netOf}
+use Rattle.table.specs.Layout.{layoutOf}
 use Rattle.table.specs.Packets.{slotOf, viewOf, itemIn, goodAt}
 use Rattle.table.proofs.PacketLaws.{good-here}
-use Rattle.survey.specs.declared.checking.Fault.{Fault}
-use Rattle.survey.specs.declared.checking.Fault.the-variants.{At, Nowhere}
-use Rattle.survey.specs.declared.checking.Checked.{Checked}
-use Rattle.survey.specs.declared.checking.Checked.the-variants.{Passes, FaultAt}
-use Rattle.survey.specs.Check.{
-  heldAt,
-  serialAt,
-  spoiledAt,
-  firstSpoiled,
-  hasSerial,
-  repeatsAt,
-  firstRepeat,
-  heldBelow,
-  orElse,
-  countsOk,
-  serialsOk,
-  checkedIn,
-}
-use Rattle.survey.proofs.CheckLaws.{first-none, none-first, unused-serial, serial-unused}
+use Rattle.survey.specs.Check.{heldAt, serialAt, spoiledAt, hasSerial, repeatsAt, heldBelow, faultIn}
+use Rattle.survey.proofs.CheckLaws.{Faultless, fault-none, none-fault, unused-serial, serial-unused}
+use Rattle.network.specs.declared.Lowest.the-variants.{Nowhere}
 
 module _ (h : Head) (t : List ℕ) where
   -- what slot i adds to the packets that the table holds
   abbrev there : ℕ → List Item
-  there i = seen (layoutOf h) i (slotOf (slotAt t i))
+  there i = seen (layoutOf (h .board)) i (slotOf (slotAt t i))
 
-  there-held : (i : ℕ) → heldAt t i ≡ true → there i ≡ itemIn h t i ∷ []
+  there-held : (i : ℕ) → heldAt t i ≡ true → there i ≡ itemIn (h .board) t i ∷ []
   there-held i e = rw (not-true (zeros (slotAt t i)) e)
 
   there-empty : (i : ℕ) → heldAt t i ≡ false → there i ≡ []
@@ -55,14 +40,14 @@ module _ (h : Head) (t : List ℕ) where
 
   -- a property of the packets below n is one of the held slots
   module _ (P : Item → Type 0) (n : ℕ) where
-    all-held : ((i : ℕ) → i < n → heldAt t i ≡ true → P (itemIn h t i)) → All P (collect there n)
+    all-held : ((i : ℕ) → i < n → heldAt t i ≡ true → P (itemIn (h .board) t i)) → All P (collect there n)
     all-held f = all-collect P there n (λ i l. go i l (heldAt t i) refl)
       where
         go : (i : ℕ) → i < n → (b : Bool) → heldAt t i ≡ b → All P (there i)
         go i l true e = rw (there-held i e) (f i l e, tt)
         go i l false e = rw (there-empty i e) tt
 
-    held-all : All P (collect there n) → (i : ℕ) → i < n → heldAt t i ≡ true → P (itemIn h t i)
+    held-all : All P (collect there n) → (i : ℕ) → i < n → heldAt t i ≡ true → P (itemIn (h .board) t i)
     held-all a i l e = (rw (there-held i e) at (collect-all P there n a i l)) .0
 
   pub count-held : (n : ℕ) → length (collect there n) ≡ heldBelow t n
@@ -116,62 +101,42 @@ module _ (h : Head) (t : List ℕ) where
         | no q ↦ rest (rw (there-empty n e) at d) i (omega arith)
       ]
 
--- ---- the three answers that make the check's
-
-pub none-or : (f : Fault) (next : Checked) → orElse f next ≡ Passes → (f ≡ Nowhere) × (next ≡ Passes)
-none-or (At k) next e = clash cc
-none-or Nowhere next e = (refl, e)
-
-chosen : (b : Bool) (n : ℕ) → cond b Passes (FaultAt n) ≡ Passes → b ≡ true
-chosen true n e = refl
-chosen false n e = clash cc
+-- ---- the check's meaning, both ways
 
 module _ (h : Head) (t : List ℕ) where
   abbrev size : ℕ
-  size = layoutOf h .size
+  size = layoutOf (h .board) .size
 
   abbrev Sound : Item → Type 0
-  Sound = Good (netOf h) (h .taken) (h .delivered)
+  Sound = Good (netOf (h .board)) (h .taken) (h .delivered)
 
-  -- taken less delivered is the number of held slots
-  pub passes-counted : checkedIn h t ≡ Passes → h .taken - h .delivered ≡ heldBelow t size
-  unfolding checkedIn serialsOk countsOk
-  passes-counted e =
-      let a = none-or (firstSpoiled h t) (serialsOk h t) e in
-      let b = none-or (firstRepeat t size) (countsOk h t) (a .1) in
-      eqb-true (h .taken - h .delivered) (heldBelow t size) (chosen _ size (b .1))
+  abbrev Passes : Type 0
+  Passes = Passing (netOf (h .board)) (contents (layoutOf (h .board)) (viewOf h t))
 
-  pub passes-means : GoodHead h → h .delivered ≤ h .taken → checkedIn h t ≡ Passes → Passing (netOf h) (contents (layoutOf h) (viewOf h t))
-  unfolding checkedIn serialsOk countsOk firstSpoiled firstRepeat
+  pub passes-means : GoodBoard (h .board) → h .delivered ≤ h .taken → faultIn h t ≡ Nowhere → Passes
   passes-means g d e =
-      let a = none-or (firstSpoiled h t) (serialsOk h t) e in
-      let b = none-or (firstRepeat t size) (countsOk h t) (a .1) in
-      let good = first-none (spoiledAt h t) 0 size (a .0) in
-      let fresh = first-none (repeatsAt t) 0 size (b .0) in
-      let n = passes-counted e in
-      let all : h .taken ≡ h .delivered + length (collect (there h t) size) = omega (arith, count-held h t size) in
+      let f = fault-none h t e in
+      let all : h .taken ≡ h .delivered + length (collect (there h t) size) = omega (arith, f .counted, count-held h t size) in
       record {
-        sound = all-held h t Sound size (λ i l p. good-here h t i (not-false _ (sym (and-yes p) ∙ good .lacks i (omega arith) (omega arith))) g l);
-        distinct = distinct-by h t size (λ i l. fresh .lacks i (omega arith) (omega arith));
+        sound = all-held h t Sound size (λ i l p. good-here h t i (not-false _ (sym (and-yes p) ∙ f .sound .lacks i (omega arith) (omega arith))) g l);
+        distinct = distinct-by h t size (λ i l. f .single .lacks i (omega arith) (omega arith));
         counted = all;
       }
 
-  sound-spoiled : ((i : ℕ) → i < size → heldAt t i ≡ true → Sound (itemIn h t i)) → (i : ℕ) → i < size → spoiledAt h t i ≡ false
+  sound-spoiled : ((i : ℕ) → i < size → heldAt t i ≡ true → Sound (itemIn (h .board) t i)) → (i : ℕ) → i < size → spoiledAt h t i ≡ false
   unfolding goodAt
   sound-spoiled f i l = go (heldAt t i) refl
     where
       go : (b : Bool) → heldAt t i ≡ b → spoiledAt h t i ≡ false
-      go true e = and-yes e ∙ ap not (means-good (netOf h) (h .taken) (h .delivered) (itemIn h t i) (f i l e))
+      go true e = and-yes e ∙ ap not (means-good (netOf (h .board)) (h .taken) (h .delivered) (itemIn (h .board) t i) (f i l e))
       go false e = and-no (not (goodAt h t i)) e
 
-  pub means-passes : Passing (netOf h) (contents (layoutOf h) (viewOf h t)) → checkedIn h t ≡ Passes
-  unfolding checkedIn serialsOk countsOk firstSpoiled firstRepeat
+  pub means-passes : Passes → faultIn h t ≡ Nowhere
   means-passes p =
       let good = sound-spoiled (held-all h t Sound size (p .sound)) in
       let fresh = by-distinct h t size (p .distinct) in
-      let n : h .taken - h .delivered ≡ heldBelow t size = omega (arith, count-held h t size, p .counted) in
-      rw (
-        none-first (spoiledAt h t) 0 size (record { lacks = λ i o l. good i (omega arith) }),
-        none-first (repeatsAt t) 0 size (record { lacks = λ i o l. fresh i (omega arith) }),
-        eq-eqb (h .taken - h .delivered) (heldBelow t size) n,
-      )
+      none-fault h t record {
+        sound = record { lacks = λ i o l. good i (omega arith) };
+        single = record { lacks = λ i o l. fresh i (omega arith) };
+        counted = omega (arith, count-held h t size, p .counted);
+      }

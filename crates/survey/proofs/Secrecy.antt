@@ -17,19 +17,20 @@ use Rattle.table.specs.declared.trailer.Headed.the-variants.{Good, Bad}
 use Rattle.table.specs.Trailer.{trailerOf, last16}
 use Rattle.table.specs.Layout.{layoutOf}
 use Rattle.table.proofs.TrailerLaws.{table-sized, trailer-good, trailer-same, trailer-before}
-use Rattle.survey.specs.declared.checking.Checked.{Checked}
+use Rattle.table.specs.Calls.{outcome}
 use Rattle.survey.specs.declared.checking.Checked.the-variants.{Passes, BadTrailer, FaultAt}
-use Rattle.survey.specs.Check.{checkedIn, checkedBy, checkedSlice}
-use Rattle.survey.specs.Copy.{veiled, copiedAfter, copiedIn, copiedBy, copiedSlice}
+use Rattle.survey.specs.declared.copying.Copied.the-variants as copied
+use Rattle.survey.specs.Check.{faultIn, faultOr, unlessFault, readBy, onPassing, checkedSlice}
+use Rattle.survey.specs.Copy.{veiled, copiedIn, copiedSlice}
 use Rattle.survey.specs.Secrecy.{SameButPayloads, Alike, tables, neither}
 use Rattle.survey.proofs.CopyLaws.{veiled-slot, veiled-end}
-use Rattle.survey.proofs.Sight.{SeenSame, check-same}
+use Rattle.survey.proofs.Sight.{SeenSame, fault-same}
 
 -- what is read of two slices that are alike: no head in either, or one head, and tables that differ in payloads alone
 pub data ReadAlike : List ℕ → List ℕ → Type 0 where
   no-head : {s u : List ℕ} → trailerOf s ≡ Bad → trailerOf u ≡ Bad → ReadAlike s u
   one-head : {s u : List ℕ} (h : Head) → trailerOf s ≡ Good h → trailerOf u ≡ Good h
-      → SameButPayloads (layoutOf h .size) (drop (length s - h .size) s) (drop (length u - h .size) u)
+      → SameButPayloads (layoutOf (h .board) .size) (drop (length s - h .size) s) (drop (length u - h .size) u)
       → ReadAlike s u
 
 -- the table of a slice that ends with it
@@ -75,15 +76,14 @@ module _ {n : ℕ} {t w : List ℕ} (a : SameButPayloads n t w) where
         trailer-before q w (omega (arith, a .full-too)) (omega (arith, a .full, a .full-too)) ∙ sym same-trailer
 
     read-tables : ReadAlike (p ++ t) (q ++ w)
-    unfolding layoutOf
     read-tables = by (trailerOf t) refl
       where
         by : (x : Headed) → trailerOf t ≡ x → ReadAlike (p ++ t) (q ++ w)
         by Bad e = no-head (first-trailer ∙ e) (second-trailer ∙ e)
         by (Good h) e =
             let l : h .size ≡ length t = ap (λ (x : Head). x .size) (trailer-good t e .read) ∙ ap (λ (z : List ℕ). le32 z 12) ends ∙ a .distance in
-            let m : n ≡ layoutOf h .size = omega (arith, a .full, table-sized t e (sym l) .full) in
-            let same : SameButPayloads (layoutOf h .size) t w = rw m at a in
+            let m : n ≡ layoutOf (h .board) .size = omega (arith, a .full, table-sized t e (sym l) .full) in
+            let same : SameButPayloads (layoutOf (h .board) .size) t w = rw m at a in
             one-head h (first-trailer ∙ e) (second-trailer ∙ e)
             (rw (table-of p t (h .size) l, table-of q w (h .size) (l ∙ a .full ∙ sym (a .full-too))) same)
 
@@ -91,32 +91,28 @@ pub read-alike : {s u : List ℕ} → Alike s u → ReadAlike s u
 read-alike (tables p q a) = read-tables a p q
 read-alike (neither e f) = no-head e f
 
--- the check's answer decides, and it is the same
-module _ (h : Head) {t w : List ℕ} (a : SameButPayloads (layoutOf h .size) t w) where
-  same-check : checkedIn h t ≡ checkedIn h w
-  same-check = check-same h t w (seen a)
+-- whatever is asked of a passing table: the first fault decides, and it is the same
+module _ {A : Type 0} (bad : A) (fault : ℕ → A) (passes : Head → List ℕ → A)
+    (same : (h : Head) (t w : List ℕ) → SameButPayloads (layoutOf (h .board) .size) t w → passes h t ≡ passes h w) where
+  by-read : {s u : List ℕ} → ReadAlike s u → onPassing s bad fault passes ≡ onPassing u bad fault passes
+  by-read (no-head {s} {u} e f) = ap (readBy s bad (unlessFault fault passes)) e ∙ sym (ap (readBy u bad (unlessFault fault passes)) f)
+  by-read (one-head {s} {u} h e f a) =
+      let t = drop (length s - h .size) s in
+      let w = drop (length u - h .size) u in
+      ap (readBy s bad (unlessFault fault passes)) e
+      ∙ ap (λ (x : A). faultOr fault x (faultIn h t)) (same h t w a)
+      ∙ ap (faultOr fault (passes h w)) (fault-same h t w (seen a))
+      ∙ sym (ap (readBy u bad (unlessFault fault passes)) f)
 
-  same-in : (out : List ℕ) → copiedIn h t out ≡ copiedIn h w out
-  unfolding copiedIn
-  same-in out = ap (copiedAfter h t out) same-check ∙ by (checkedIn h w)
-    where
-      by : (x : Checked) → copiedAfter h t out x ≡ copiedAfter h w out x
-      by Passes = rw (same-copy a, a .full, a .full-too)
-      by BadTrailer = refl
-      by (FaultAt place) = refl
-
-check-by : {s u : List ℕ} → ReadAlike s u → checkedSlice s ≡ checkedSlice u
-unfolding checkedSlice
-check-by (no-head {s} {u} e f) = ap (checkedBy s) e ∙ sym (ap (checkedBy u) f)
-check-by (one-head {s} {u} h e f a) = ap (checkedBy s) e ∙ same-check h a ∙ sym (ap (checkedBy u) f)
+  pub passing-secret : {s u : List ℕ} → Alike s u → onPassing s bad fault passes ≡ onPassing u bad fault passes
+  passing-secret a = by-read (read-alike a)
 
 pub check-secret : {s u : List ℕ} → Alike s u → checkedSlice s ≡ checkedSlice u
-check-secret a = check-by (read-alike a)
-
-copy-by : {s u : List ℕ} → ReadAlike s u → (out : List ℕ) → copiedSlice s out ≡ copiedSlice u out
-unfolding copiedSlice
-copy-by (no-head {s} {u} e f) out = ap (copiedBy s out) e ∙ sym (ap (copiedBy u out) f)
-copy-by (one-head {s} {u} h e f a) out = ap (copiedBy s out) e ∙ same-in h a out ∙ sym (ap (copiedBy u out) f)
+unfolding checkedSlice
+check-secret a = passing-secret BadTrailer FaultAt (λ h t. Passes) (λ h t w b. refl) a
 
 pub secret : {s u : List ℕ} → Alike s u → (out : List ℕ) → copiedSlice s out ≡ copiedSlice u out
-secret a = copy-by (read-alike a)
+unfolding copiedSlice copiedIn
+secret a out =
+    passing-secret (outcome copied.BadTrailer out) (λ place. outcome (copied.FaultAt place) out) (copiedIn out)
+    (λ h t w b. rw (same-copy b, b .full, b .full-too)) a

@@ -3,40 +3,23 @@
 use Prim.Native.Nat.{ℕ, zero, suc, _+_, _≤_, _<_}
 use mathlib.Core.Path.{_≡_, refl, sym, ap, _∙_}
 use mathlib.Core.List.{List}
-use mathlib.Core.Bool.{Bool}
 use native.Mathlib.Omega.{arith}
 use lib.ListN.{take}
 use Rattle.network.specs.Packet.{good}
+use Rattle.network.proofs.SearchLaws.{lowest-same}
 use Rattle.slots.specs.Slots.{slotAt, zeros}
 use Rattle.table.specs.declared.trailer.Head.{Head}
 use Rattle.table.specs.declared.packets.Fields.{Fields}
-use Rattle.table.specs.Layout.{netOf, layoutOf}
+use Rattle.table.specs.Board.{netOf}
+use Rattle.table.specs.Layout.{layoutOf}
 use Rattle.table.specs.Packets.{goodAt, fieldsOf, itemBy}
 use Rattle.table.proofs.PacketLaws.{fields-same, good-by}
-use Rattle.survey.specs.Check.{
-  serialAt,
-  firstOf,
-  spoiledAt,
-  firstSpoiled,
-  hasSerial,
-  repeatsAt,
-  firstRepeat,
-  heldBelow,
-  countsOk,
-  serialsOk,
-  checkedIn,
-}
+use Rattle.survey.specs.Check.{serialAt, spoiledAt, firstSpoiled, hasSerial, repeatsAt, firstRepeat, heldBelow, miscount, faultIn}
 
 -- the first n slots of two tables look the same to the check
 pub record SeenSame (n : ℕ) (t w : List ℕ) : Type 0 where
   pub held : (k : ℕ) → k < n → zeros (slotAt t k) ≡ zeros (slotAt w k)
   pub front : (k : ℕ) → k < n → take 8 (slotAt t k) ≡ take 8 (slotAt w k)
-
--- the lowest slot with a property depends on the property of these slots alone
-first-same : (p q : ℕ → Bool) (b n : ℕ) → ((j : ℕ) → b ≤ j → j < b + n → p j ≡ q j) → firstOf p b n ≡ firstOf q b n
-first-same p q b zero f = refl
-first-same p q b (suc n) f =
-    rw (f b (omega arith) (omega arith), first-same p q (suc b) n (λ j l g. f j (omega arith) (omega arith)))
 
 module _ {n : ℕ} {t w : List ℕ} (a : SeenSame n t w) where
   pub fields-alike : (k : ℕ) → k < n → fieldsOf (slotAt t k) ≡ fieldsOf (slotAt w k)
@@ -48,10 +31,10 @@ module _ {n : ℕ} {t w : List ℕ} (a : SeenSame n t w) where
   good-alike : (h : Head) (k : ℕ) → k < n → goodAt h t k ≡ goodAt h w k
   unfolding goodAt
   good-alike h k l =
-      let here = layoutOf h .placeOf k in
-      sym (good-by (slotAt t k) (netOf h) (h .taken) (h .delivered) here)
-      ∙ ap (λ (f : Fields). good (netOf h) (h .taken) (h .delivered) (itemBy here f)) (fields-alike k l)
-      ∙ good-by (slotAt w k) (netOf h) (h .taken) (h .delivered) here
+      let here = layoutOf (h .board) .placeOf k in
+      sym (good-by (slotAt t k) (netOf (h .board)) (h .taken) (h .delivered) here)
+      ∙ ap (λ (f : Fields). good (netOf (h .board)) (h .taken) (h .delivered) (itemBy here f)) (fields-alike k l)
+      ∙ good-by (slotAt w k) (netOf (h .board)) (h .taken) (h .delivered) here
 
   spoiled-alike : (h : Head) (k : ℕ) → k < n → spoiledAt h t k ≡ spoiledAt h w k
   spoiled-alike h k l = rw (a .held k l, good-alike h k l)
@@ -67,12 +50,12 @@ module _ {n : ℕ} {t w : List ℕ} (a : SeenSame n t w) where
   count-alike zero l = refl
   count-alike (suc m) l = rw (a .held m l, count-alike m (omega arith))
 
-pub check-same : (h : Head) (t w : List ℕ) → SeenSame (layoutOf h .size) t w → checkedIn h t ≡ checkedIn h w
-unfolding checkedIn serialsOk countsOk firstSpoiled firstRepeat
-check-same h t w a =
-    let n = layoutOf h .size in
+pub fault-same : (h : Head) (t w : List ℕ) → SeenSame (layoutOf (h .board) .size) t w → faultIn h t ≡ faultIn h w
+unfolding faultIn miscount firstSpoiled firstRepeat
+fault-same h t w a =
+    let n = layoutOf (h .board) .size in
     rw (
-      first-same (spoiledAt h t) (spoiledAt h w) 0 n (λ j l g. spoiled-alike a h j (omega arith)),
-      first-same (repeatsAt t) (repeatsAt w) 0 n (λ j l g. repeats-alike a j (omega arith)),
+      lowest-same (spoiledAt h t) (spoiledAt h w) 0 n (λ j l g. spoiled-alike a h j (omega arith)),
+      lowest-same (repeatsAt t) (repeatsAt w) 0 n (λ j l g. repeats-alike a j (omega arith)),
       count-alike a n (omega arith),
     )

@@ -9,6 +9,7 @@ use native.Mathlib.Omega.{arith}
 use borrow.Author.Tests.{not-false}
 use lib.ListN.{length, getD, take}
 use Rattle.network.proofs.Tests.{and-yes}
+use Rattle.network.specs.declared.Lowest.the-variants.{Nowhere}
 use Rattle.slots.specs.Slots.{slotAt, zeros}
 use Rattle.slots.proofs.SlotLaws.{length-slotAt}
 use Rattle.table.specs.declared.trailer.Head.{Head}
@@ -17,20 +18,17 @@ use Rattle.table.specs.Trailer.{trailerOf}
 use Rattle.table.specs.Layout.{layoutOf}
 use Rattle.table.proofs.PacketLaws.{good-here}
 use Rattle.table.proofs.TrailerLaws.{table-sized, trailer-same}
-use Rattle.survey.specs.declared.checking.Checked.the-variants.{Passes}
-use Rattle.survey.specs.Check.{heldAt, spoiledAt, firstSpoiled, serialsOk, checkedIn}
+use Rattle.survey.specs.Check.{heldAt, spoiledAt, faultIn}
 use Rattle.survey.specs.Copy.{withoutPayload, veiled}
-use Rattle.survey.proofs.CheckLaws.{first-none}
-use Rattle.survey.proofs.Meaning.{none-or}
+use Rattle.survey.proofs.CheckLaws.{fault-none}
 use Rattle.survey.proofs.CopyLaws.{zeros-shown, front-shown, length-veiled, veiled-slot, veiled-end}
-use Rattle.survey.proofs.Sight.{SeenSame, check-same}
+use Rattle.survey.proofs.Sight.{SeenSame, fault-same}
 
 abbrev count : Head → ℕ
-count h = layoutOf h .size
+count h = layoutOf (h .board) .size
 
 module _ (t : List ℕ) {h : Head} (e : trailerOf t ≡ Good h) (l : length t ≡ h .size) where
   full : length t ≡ 16 * count h + 16
-  unfolding layoutOf
   full = table-sized t e l .full
 
   trailer-shown : trailerOf (veiled (count h) t) ≡ Good h
@@ -41,17 +39,14 @@ module _ (t : List ℕ) {h : Head} (e : trailerOf t ≡ Good h) (l : length t �
       trailer-same (veiled (count h) t) t same (rw (same, at) (veiled-end (count h) t (omega arith))) ∙ e
 
   -- a slot of a table that passes is empty, or its packet is good and so has its mark
-  empty-or-marked : checkedIn h t ≡ Passes → (k : ℕ) → k < count h → (zeros (slotAt t k) ≡ true) ⊎ (getD (slotAt t k) 0 0 ≡ 1)
-  unfolding checkedIn firstSpoiled
-  empty-or-marked p k b =
-      let none = first-none (spoiledAt h t) 0 (count h) (none-or (firstSpoiled h t) (serialsOk h t) p .0) in
-      go (heldAt t k) refl (none .lacks k (omega arith) (omega arith))
+  empty-or-marked : faultIn h t ≡ Nowhere → (k : ℕ) → k < count h → (zeros (slotAt t k) ≡ true) ⊎ (getD (slotAt t k) 0 0 ≡ 1)
+  empty-or-marked p k b = go (heldAt t k) refl (fault-none h t p .sound .lacks k (omega arith) (omega arith))
     where
       go : (z : Bool) → heldAt t k ≡ z → spoiledAt h t k ≡ false → (zeros (slotAt t k) ≡ true) ⊎ (getD (slotAt t k) 0 0 ≡ 1)
-      go true q s = inr (good-here h t k (not-false _ (sym (and-yes q) ∙ s)) (table-sized t e l .dims) b .marked)
+      go true q s = inr (good-here h t k (not-false _ (sym (and-yes q) ∙ s)) (table-sized t e l .board) b .marked)
       go false q s = inl (not-false _ q)
 
-  shown-same : checkedIn h t ≡ Passes → SeenSame (count h) (veiled (count h) t) t
+  shown-same : faultIn h t ≡ Nowhere → SeenSame (count h) (veiled (count h) t) t
   shown-same p = record {
     held = λ k b. ap zeros (shown k b) ∙ zeros-shown (slotAt t k) (sixteen k b) (empty-or-marked p k b);
     front = λ k b. ap (take 8) (shown k b) ∙ front-shown (slotAt t k) (sixteen k b);
@@ -63,6 +58,6 @@ module _ (t : List ℕ) {h : Head} (e : trailerOf t ≡ Good h) (l : length t �
       sixteen : (k : ℕ) → k < count h → length (slotAt t k) ≡ 16
       sixteen k b = length-slotAt t k (omega (arith, full))
 
-  pub copy-passes : checkedIn h t ≡ Passes
-      → (trailerOf (veiled (layoutOf h .size) t) ≡ Good h) × (checkedIn h (veiled (layoutOf h .size) t) ≡ Passes)
-  copy-passes p = (trailer-shown, check-same h (veiled (count h) t) t (shown-same p) ∙ p)
+  pub copy-passes : faultIn h t ≡ Nowhere
+      → (trailerOf (veiled (layoutOf (h .board) .size) t) ≡ Good h) × (faultIn h (veiled (layoutOf (h .board) .size) t) ≡ Nowhere)
+  copy-passes p = (trailer-shown, fault-same h (veiled (count h) t) t (shown-same p) ∙ p)

@@ -1,53 +1,35 @@
 -- Full check: 1; else it names its first fault as 10 with a place: the lowest spoiled slot; else the lowest held slot whose serial a lower
 -- held slot has; else S, where taken less delivered isn't the number of held slots.
 -- Assumes nothing.
-use Prim.Native.Nat.{ℕ, zero, suc, _+_, _-_, _≤_, _<_}
-use mathlib.Core.Path.{_≡_}
-use mathlib.Core.List.{List}
-use mathlib.Core.Bool.{Bool, true, false, not, cond, _&&_, _||_}
+use Prim.Native.Nat.{ℕ, zero, suc, _+_, _-_}
+use mathlib.Core.List.{List, [], _∷_}
+use mathlib.Core.Bool.{Bool, false, not, cond, _&&_, _||_}
 use lib.Dec.{eqb}
 use lib.ListN.{length, drop}
+use Rattle.network.specs.declared.Lowest.{Lowest}
+use Rattle.network.specs.declared.Lowest.the-variants.{At, Nowhere}
+use Rattle.network.specs.Search.{lowestWith}
 use Rattle.slots.specs.Bytes.{le32}
-use Rattle.slots.specs.Slots.{slotAt, zeros}
+use Rattle.slots.specs.Slots.{slotAt}
 use Rattle.table.specs.declared.trailer.Head.{Head}
 use Rattle.table.specs.declared.trailer.Headed.{Headed}
 use Rattle.table.specs.declared.trailer.Headed.the-variants.{Good, Bad}
 use Rattle.table.specs.Refusals.{trailer-not-good, check-failed}
-use Rattle.table.specs.Trailer.{trailerOf}
 use Rattle.table.specs.Layout.{layoutOf}
+use Rattle.table.specs.Trailer.{trailerOf}
 use Rattle.table.specs.Packets.{goodAt}
-use Rattle.survey.specs.declared.checking.Fault.{Fault}
-use Rattle.survey.specs.declared.checking.Fault.the-variants.{At, Nowhere}
+use Rattle.table.specs.Queues.{emptyAt}
 use Rattle.survey.specs.declared.checking.Checked.{Checked}
 use Rattle.survey.specs.declared.checking.Checked.the-variants.{Passes, BadTrailer, FaultAt}
 
 abbrev pub heldAt : List ℕ → ℕ → Bool
-heldAt t k = not (zeros (slotAt t k))
+heldAt t k = not (emptyAt t k)
 
 abbrev pub serialAt : List ℕ → ℕ → ℕ
 serialAt t k = le32 (slotAt t k) 4
 
--- the lowest of the n slots from slot k with a property
-abbrev pub firstOf : (ℕ → Bool) → ℕ → ℕ → Fault
-firstOf p k zero = Nowhere
-firstOf p k (suc n) = cond (p k) (At k) (firstOf p (suc k) n)
-
--- slot k is the lowest of them with the property
-pub record LowestWith (p : ℕ → Bool) (b n k : ℕ) : Type 0 where
-  pub from : b ≤ k
-  pub below : k < b + n
-  pub has : p k ≡ true
-  pub least : (j : ℕ) → b ≤ j → j < k → p j ≡ false
-
--- none of them has it
-pub record NoneWith (p : ℕ → Bool) (b n : ℕ) : Type 0 where
-  pub lacks : (j : ℕ) → b ≤ j → j < b + n → p j ≡ false
-
 abbrev pub spoiledAt : Head → List ℕ → ℕ → Bool
 spoiledAt h t k = heldAt t k && not (goodAt h t k)
-
-unfoldable pub firstSpoiled : Head → List ℕ → Fault
-firstSpoiled h t = firstOf (spoiledAt h t) 0 (layoutOf h .size)
 
 -- a held slot below n has this serial
 abbrev pub hasSerial : List ℕ → ℕ → ℕ → Bool
@@ -57,33 +39,60 @@ hasSerial t serial (suc n) = (heldAt t n && eqb (serialAt t n) serial) || hasSer
 abbrev pub repeatsAt : List ℕ → ℕ → Bool
 repeatsAt t k = heldAt t k && hasSerial t (serialAt t k) k
 
-unfoldable pub firstRepeat : List ℕ → ℕ → Fault
-firstRepeat t n = firstOf (repeatsAt t) 0 n
-
 -- how many slots below n are held
 abbrev pub heldBelow : List ℕ → ℕ → ℕ
 heldBelow t zero = 0
 heldBelow t (suc n) = cond (heldAt t n) 1 0 + heldBelow t n
 
-abbrev pub orElse : Fault → Checked → Checked
-orElse (At k) next = FaultAt k
+-- the three searches
+unfoldable pub firstSpoiled : Head → List ℕ → Lowest
+firstSpoiled h t = lowestWith (spoiledAt h t) 0 (layoutOf (h .board) .size)
+
+unfoldable pub firstRepeat : Head → List ℕ → Lowest
+firstRepeat h t = lowestWith (repeatsAt t) 0 (layoutOf (h .board) .size)
+
+unfoldable pub miscount : Head → List ℕ → Lowest
+miscount h t =
+    let size = layoutOf (h .board) .size in
+    cond (eqb (h .taken - h .delivered) (heldBelow t size)) Nowhere (At size)
+
+abbrev pub faults : Head → List ℕ → List Lowest
+faults h t = firstSpoiled h t ∷ firstRepeat h t ∷ miscount h t ∷ []
+
+-- the first search that finds something answers
+abbrev pub orElse : Lowest → Lowest → Lowest
+orElse (At place) next = At place
 orElse Nowhere next = next
 
-unfoldable pub countsOk : Head → List ℕ → Checked
-countsOk h t = cond (eqb (h .taken - h .delivered) (heldBelow t (layoutOf h .size))) Passes (FaultAt (layoutOf h .size))
+abbrev pub firstAt : List Lowest → Lowest
+firstAt [] = Nowhere
+firstAt (r ∷ rs) = orElse r (firstAt rs)
 
-unfoldable pub serialsOk : Head → List ℕ → Checked
-serialsOk h t = orElse (firstRepeat t (layoutOf h .size)) (countsOk h t)
+-- the first fault of a table under a good trailer
+unfoldable pub faultIn : Head → List ℕ → Lowest
+faultIn h t = firstAt (faults h t)
+
+-- ten, then: what a call answers that needs a table which passes
+abbrev pub faultOr : {A : Type 0} → (ℕ → A) → A → Lowest → A
+faultOr fault passes (At place) = fault place
+faultOr fault passes Nowhere = passes
+
+abbrev pub unlessFault : {A : Type 0} → (ℕ → A) → (Head → List ℕ → A) → Head → List ℕ → A
+unlessFault fault passes h t = faultOr fault (passes h t) (faultIn h t)
+
+-- and one before: with a good trailer, what f says of the table
+abbrev pub readBy : {A : Type 0} → List ℕ → A → (Head → List ℕ → A) → Headed → A
+readBy s bad f Bad = bad
+readBy s bad f (Good h) = f h (drop (length s - h .size) s)
+
+abbrev pub onPassing : {A : Type 0} → List ℕ → A → (ℕ → A) → (Head → List ℕ → A) → A
+onPassing s bad fault passes = readBy s bad (unlessFault fault passes) (trailerOf s)
 
 unfoldable pub checkedIn : Head → List ℕ → Checked
-checkedIn h t = orElse (firstSpoiled h t) (serialsOk h t)
-
-abbrev pub checkedBy : List ℕ → Headed → Checked
-checkedBy s Bad = BadTrailer
-checkedBy s (Good h) = checkedIn h (drop (length s - h .size) s)
+checkedIn = unlessFault FaultAt (λ h t. Passes)
 
 unfoldable pub checkedSlice : List ℕ → Checked
-checkedSlice s = checkedBy s (trailerOf s)
+checkedSlice s = onPassing s BadTrailer FaultAt (λ h t. Passes)
 
 -- the paper's number and place of each answer
 pub record CheckAnswer : Type 0 where

@@ -1,4 +1,5 @@
--- Flags as bits of bytes, and when they tell of the serials below a slot.
+-- Flags as bits of bytes, and when they tell of the serials below a slot: how the search for a repeated serial is made quick. No call is defined by
+-- it: a reader may pass over this file.
 -- Assumes nothing.
 use Prim.Native.Nat.{ℕ, _+_, _/_, _%_, _<_}
 use mathlib.Core.Path.{_≡_}

@@ -1,4 +1,5 @@
 // The full check: it names its first fault.
+use network::Lowest;
 use table::trailer::Head;
 use table::trailer::Headed;
 ghost use mathlib.Core.Path.{_≡_};
@@ -6,15 +7,8 @@ ghost use Prim.Native.Nat.{_+_, _*_, _≤_, _<_};
 ghost use lib.ListN.{length};
 ghost use Rattle.table.specs.Trailer.{Sized};
 ghost use Rattle.table.specs.Layout.{layoutOf};
-ghost use Rattle.survey.specs.Check.{heldAt, spoiledAt, firstSpoiled, hasSerial, repeatsAt, firstRepeat, heldBelow};
-ghost use Rattle.survey.specs.Check.{countsOk, serialsOk, checkedIn, checkedSlice};
+ghost use Rattle.survey.specs.Check.{heldAt, spoiledAt, firstSpoiled, hasSerial, repeatsAt, firstRepeat, heldBelow, miscount, faultIn, checkedIn, checkedSlice};
 ghost use Rattle.survey.specs.Filter.{Met};
-
-// Where a fault is, if there is one.
-pub enum Fault {
-    At(usize),
-    Nowhere,
-}
 
 pub enum Checked {
     Passes,
@@ -30,8 +24,8 @@ fn held(t: &[u8], k: usize) -> bool
 }
 
 fn spoiled(t: &[u8], h: Head, k: usize) -> bool
-    requires { ⌜ Sized h (now t) ⌝ }
-    requires { ⌜ k < layoutOf h .size ⌝ }
+    requires { ⌜ Sized (h .board) (now t) ⌝ }
+    requires { ⌜ k < layoutOf (h .board) .size ⌝ }
     ensures { λ r. ⌜ r ≡ spoiledAt h (now (t .entry)) k ⌝ }
 {
     if !held(t, k) {
@@ -41,19 +35,20 @@ fn spoiled(t: &[u8], h: Head, k: usize) -> bool
 }
 
 // The lowest spoiled slot.
-fn first_spoiled(t: &[u8], h: Head) -> Fault
-    requires { ⌜ Sized h (now t) ⌝ }
+fn first_spoiled(t: &[u8], h: Head) -> Lowest
+    requires { ⌜ Sized (h .board) (now t) ⌝ }
     ensures { λ r. ⌜ r ≡ firstSpoiled h (now (t .entry)) ⌝ }
 {
-    let n = table::layout::slots_of(h);
+    let b = h.board;
+    let n = table::layout::slots_of(b);
     let mut k = 0;
     while k < n {
         if spoiled(t, h, k) {
-            return Fault::At(k);
+            return Lowest::At(k);
         }
         k += 1;
     }
-    Fault::Nowhere
+    Lowest::Nowhere
 }
 
 // Does a held slot below `n` have this serial?
@@ -93,19 +88,21 @@ fn repeats(t: &[u8], flags: &mut [u8; 512], k: usize) -> bool
 }
 
 // The lowest held slot whose serial a lower held slot has.
-fn first_repeat(t: &[u8], n: usize) -> Fault
-    requires { ⌜ 16 * n ≤ length (now t) ⌝ }
-    ensures { λ r. ⌜ r ≡ firstRepeat (now (t .entry)) n ⌝ }
+fn first_repeat(t: &[u8], h: Head) -> Lowest
+    requires { ⌜ Sized (h .board) (now t) ⌝ }
+    ensures { λ r. ⌜ r ≡ firstRepeat h (now (t .entry)) ⌝ }
 {
+    let b = h.board;
+    let n = table::layout::slots_of(b);
     let mut flags = [0u8; 512];
     let mut k = 0;
     while k < n {
         if repeats(t, &mut flags, k) {
-            return Fault::At(k);
+            return Lowest::At(k);
         }
         k += 1;
     }
-    Fault::Nowhere
+    Lowest::Nowhere
 }
 
 // How many of the slots below `n` are held.
@@ -124,45 +121,52 @@ fn held_below(t: &[u8], n: usize) -> usize
     count
 }
 
-fn check_counts(t: &[u8], h: Head, n: usize) -> Checked
-    requires { ⌜ Sized h (now t) ⌝ }
-    requires { ⌜ n ≡ layoutOf h .size ⌝ }
+// S, where taken less delivered isn't the number of held slots.
+fn miscounted(t: &[u8], h: Head) -> Lowest
+    requires { ⌜ Sized (h .board) (now t) ⌝ }
     requires { ⌜ h .delivered ≤ h .taken ⌝ }
-    ensures { λ r. ⌜ r ≡ countsOk h (now (t .entry)) ⌝ }
+    ensures { λ r. ⌜ r ≡ miscount h (now (t .entry)) ⌝ }
 {
+    let b = h.board;
+    let n = table::layout::slots_of(b);
     let outstanding = (h.taken - h.delivered) as usize;
     if outstanding == held_below(t, n) {
-        return Checked::Passes;
+        return Lowest::Nowhere;
     }
-    Checked::FaultAt(n as u32)
+    Lowest::At(n)
 }
 
-fn check_serials(t: &[u8], h: Head) -> Checked
-    requires { ⌜ Sized h (now t) ⌝ }
+// The first fault of the table `t`, whose trailer is good.
+pub fn first_fault(t: &[u8], h: Head) -> Lowest
+    requires { ⌜ Sized (h .board) (now t) ⌝ }
     requires { ⌜ h .delivered ≤ h .taken ⌝ }
-    ensures { λ r. ⌜ r ≡ serialsOk h (now (t .entry)) ⌝ }
+    ensures { λ r. ⌜ r ≡ faultIn h (now (t .entry)) ⌝ }
 {
-    let n = table::layout::slots_of(h);
-    let f = first_repeat(t, n);
-    let Fault::At(k) = f else {
-        return check_counts(t, h, n);
+    let spoiled = first_spoiled(t, h);
+    let Lowest::Nowhere = spoiled else {
+        return spoiled;
     };
-    Checked::FaultAt(k as u32)
+    let repeated = first_repeat(t, h);
+    let Lowest::Nowhere = repeated else {
+        return repeated;
+    };
+    miscounted(t, h)
 }
 
-// The check of the table `t`, whose trailer is good.
-pub fn check_table(t: &[u8], h: Head) -> Checked
-    requires { ⌜ Sized h (now t) ⌝ }
+fn check_table(t: &[u8], h: Head) -> Checked
+    requires { ⌜ Sized (h .board) (now t) ⌝ }
     requires { ⌜ h .delivered ≤ h .taken ⌝ }
     ensures { λ r. ⌜ r ≡ checkedIn h (now (t .entry)) ⌝ }
 {
-    let f = first_spoiled(t, h);
-    let Fault::At(k) = f else {
-        return check_serials(t, h);
+    let Lowest::At(place) = first_fault(t, h) else {
+        return Checked::Passes;
     };
-    Checked::FaultAt(k as u32)
+    Checked::FaultAt(place as u32)
 }
 
+// Passes, or the first fault with its place: the lowest spoiled slot, else the lowest held slot whose serial a lower one has, else the number of
+// slots where the counts disagree.
+// Refusals: 1 trailer not good; 10 a fault.
 pub fn full_check(s: &[u8]) -> Checked
     ensures { λ r. ⌜ r ≡ checkedSlice (now (s .entry)) ⌝ }
 {

@@ -1,5 +1,5 @@
 // Outward copy: the table for outsiders, with every payload zero.
-use crate::checking::Checked;
+use network::Lowest;
 use table::trailer::Head;
 use table::trailer::Headed;
 ghost use mathlib.Core.Path.{_≡_};
@@ -7,8 +7,8 @@ ghost use Prim.Native.Nat.{_+_, _*_, _≤_};
 ghost use lib.ListN.{length};
 ghost use Rattle.slots.specs.Slots.{slotAt};
 ghost use Rattle.table.specs.Trailer.{Sized};
-ghost use Rattle.router.specs.Outcome.{outcome};
-ghost use Rattle.survey.specs.Copy.{withoutPayload, veiled, refusalOf, copiedIn, copiedSlice};
+ghost use Rattle.table.specs.Calls.{outcome};
+ghost use Rattle.survey.specs.Copy.{withoutPayload, veiled, copiedIn, copiedUnless, copiedSlice};
 
 pub enum Copied {
     Done,
@@ -57,33 +57,32 @@ fn veil(t: &[u8], n: usize, out: &mut [u8])
     slots::write_slot(out, n, slots::read_slot(t, n));
 }
 
-// What the copy answers where the check does not pass.
-fn refused(c: Checked) -> Copied
-    ensures { λ r. ⌜ r ≡ refusalOf c ⌝ }
+// The copy of a table that passes.
+fn copy_passing(t: &[u8], h: Head, out: &mut [u8]) -> Copied
+    requires { ⌜ Sized (h .board) (now t) ⌝ }
+    ensures { λ r. ⌜ outcome r (now (out .exit)) ≡ copiedIn (now (out .entry)) h (now (t .entry)) ⌝ }
 {
-    match c {
-        Checked::Passes => Copied::Done,
-        Checked::BadTrailer => Copied::BadTrailer,
-        Checked::FaultAt(place) => Copied::FaultAt(place),
-    }
-}
-
-fn copy_table(t: &[u8], h: Head, out: &mut [u8]) -> Copied
-    requires { ⌜ Sized h (now t) ⌝ }
-    requires { ⌜ h .delivered ≤ h .taken ⌝ }
-    ensures { λ r. ⌜ outcome r (now (out .exit)) ≡ copiedIn h (now (t .entry)) (now (out .entry)) ⌝ }
-{
-    let c = crate::checking::check_table(t, h);
-    let Checked::Passes = c else {
-        return refused(c);
-    };
     if out.len() != t.len() {
         return Copied::WrongLength;
     }
-    veil(t, table::layout::slots_of(h), out);
+    let b = h.board;
+    veil(t, table::layout::slots_of(b), out);
     Copied::Done
 }
 
+fn copy_table(t: &[u8], h: Head, out: &mut [u8]) -> Copied
+    requires { ⌜ Sized (h .board) (now t) ⌝ }
+    requires { ⌜ h .delivered ≤ h .taken ⌝ }
+    ensures { λ r. ⌜ outcome r (now (out .exit)) ≡ copiedUnless (now (out .entry)) h (now (t .entry)) ⌝ }
+{
+    let Lowest::At(place) = crate::checking::first_fault(t, h) else {
+        return copy_passing(t, h, out);
+    };
+    Copied::FaultAt(place as u32)
+}
+
+// Puts the table into the second buffer, every payload zero.
+// Refusals: 1 trailer not good; 10 the full check fails; 9 the second buffer hasn't exactly the table's length.
 pub fn copy_outward(s: &[u8], out: &mut [u8]) -> Copied
     ensures { λ r. ⌜ outcome r (now (out .exit)) ≡ copiedSlice (now (s .entry)) (now (out .entry)) ⌝ }
 {

@@ -1,18 +1,11 @@
 // Find: the lowest slot, and for it the lowest code, whose move would be accepted.
-use crate::checking::Checked;
+use network::Lowest;
 use table::trailer::Head;
 use table::trailer::Headed;
 ghost use mathlib.Core.Path.{_≡_};
 ghost use Prim.Native.Nat.{_≤_};
 ghost use Rattle.table.specs.Trailer.{Sized};
-ghost use Rattle.table.specs.Layout.{layoutOf};
-ghost use Rattle.survey.specs.Find.{firstCode, firstMove, refusalOf, foundIn, foundSlice};
-
-// A code of some slot, if there is one.
-pub enum Accepted {
-    Code(u32),
-    Nothing,
-}
+ghost use Rattle.survey.specs.Find.{firstCode, foundIn, foundUnless, foundSlice};
 
 pub enum Found {
     Move(u32, u32),
@@ -22,61 +15,55 @@ pub enum Found {
 }
 
 // The lowest code whose move of that slot would be accepted.
-fn first_code(t: &[u8], h: Head, slot: u32) -> Accepted
-    requires { ⌜ Sized h (now t) ⌝ }
-    ensures { λ r. ⌜ r ≡ firstCode h (now (t .entry)) slot 1 7 ⌝ }
+fn first_code(t: &[u8], h: Head, slot: u32) -> Lowest
+    requires { ⌜ Sized (h .board) (now t) ⌝ }
+    ensures { λ r. ⌜ r ≡ firstCode h (now (t .entry)) slot ⌝ }
 {
-    let mut code: u32 = 1;
-    while code < 8 {
+    let b = h.board;
+    let end = table::board::last_code(b) + 1;
+    let mut code: u32 = 0;
+    while code < end {
         let v = router::moving::judge(t, h, slot, code);
         let number = v.number;
         if number == 0 {
-            return Accepted::Code(code);
+            return Lowest::At(code as usize);
         }
         code += 1;
     }
-    Accepted::Nothing
+    Lowest::Nowhere
 }
 
-fn first_move(t: &[u8], h: Head) -> Found
-    requires { ⌜ Sized h (now t) ⌝ }
-    ensures { λ r. ⌜ r ≡ firstMove h (now (t .entry)) 0 (layoutOf h .size) ⌝ }
+// The lowest slot of a table that passes, with its lowest code.
+pub fn first_move(t: &[u8], h: Head) -> Found
+    requires { ⌜ Sized (h .board) (now t) ⌝ }
+    ensures { λ r. ⌜ r ≡ foundIn h (now (t .entry)) ⌝ }
 {
-    let n = table::layout::slots_of(h) as u32;
+    let b = h.board;
+    let n = table::layout::slots_of(b) as u32;
     let mut slot: u32 = 0;
     while slot < n {
         let c = first_code(t, h, slot);
-        if let Accepted::Code(code) = c {
-            return Found::Move(slot, code);
+        if let Lowest::At(code) = c {
+            return Found::Move(slot, code as u32);
         }
         slot += 1;
     }
     Found::NothingHeld
 }
 
-// What find answers where the check does not pass.
-fn refused(c: Checked) -> Found
-    ensures { λ r. ⌜ r ≡ refusalOf c ⌝ }
-{
-    match c {
-        Checked::Passes => Found::NothingHeld,
-        Checked::BadTrailer => Found::BadTrailer,
-        Checked::FaultAt(place) => Found::FaultAt(place),
-    }
-}
-
 fn find_in_table(t: &[u8], h: Head) -> Found
-    requires { ⌜ Sized h (now t) ⌝ }
+    requires { ⌜ Sized (h .board) (now t) ⌝ }
     requires { ⌜ h .delivered ≤ h .taken ⌝ }
-    ensures { λ r. ⌜ r ≡ foundIn h (now (t .entry)) ⌝ }
+    ensures { λ r. ⌜ r ≡ foundUnless h (now (t .entry)) ⌝ }
 {
-    let c = crate::checking::check_table(t, h);
-    let Checked::Passes = c else {
-        return refused(c);
+    let Lowest::At(place) = crate::checking::first_fault(t, h) else {
+        return first_move(t, h);
     };
-    first_move(t, h)
+    Found::FaultAt(place as u32)
 }
 
+// The lowest slot, and for it the lowest code, whose move would be accepted.
+// Refusals: 1 trailer not good; 10 the full check fails, with the place of the fault; 11 no slot is held.
 pub fn find(s: &[u8]) -> Found
     ensures { λ r. ⌜ r ≡ foundSlice (now (s .entry)) ⌝ }
 {

@@ -1,4 +1,4 @@
--- A packet carried from slot a to slot b: the slots after it, the table's length, what follows the slots, and the trailer.
+-- A packet that leaves slot a, and one carried from there to slot c: the slots after it, the table's length, what follows the slots, and the trailer.
 -- Assumes nothing.
 use Prim.Native.Nat.{ℕ, _+_, _*_, _≤_, _<_}
 use mathlib.Core.Path.{_≡_, refl, sym, _∙_}
@@ -8,81 +8,82 @@ use native.Mathlib.Omega.{arith}
 use lib.ListN.{length, getD, drop, length-set}
 use Rattle.slots.specs.Slots.{slotAt, withSlot, emptySlot}
 use Rattle.slots.proofs.SlotLaws.{length-slotAt, length-withSlot, slotAt-same, slotAt-other, drop-withSlot}
+use Rattle.table.specs.declared.board.Board.{Board}
 use Rattle.table.specs.declared.trailer.Head.{Head}
 use Rattle.table.specs.declared.trailer.Headed.the-variants.{Good}
 use Rattle.table.specs.Trailer.{trailerOf}
 use Rattle.table.specs.Layout.{layoutOf}
-use Rattle.table.specs.Carriage.{hop, left, carried}
-use Rattle.table.proofs.Places.{slot-fits}
+use Rattle.table.specs.Carriage.{hop, vacated, carried}
+use Rattle.table.proofs.BoardLaws.{slot-fits}
 use Rattle.table.proofs.TrailerLaws.{table-sized, trailer-withSlot}
 
 pub length-hop : (v : List ℕ) (more : ℕ) → length (hop v more) ≡ length v
 length-hop v more = length-set v 3 (getD v 3 0 + more)
 
-module _ (t : List ℕ) (k : ℕ) (h : 16 * k + 16 ≤ length t) where
-  -- 16 zeros
-  pub left-there : slotAt (left t k) k ≡ emptySlot
-  unfolding left
-  left-there = slotAt-same t k h emptySlot refl
+pub length-hopped : (t : List ℕ) (k more : ℕ) → 16 * k + 16 ≤ length t → length (hop (slotAt t k) more) ≡ 16
+length-hopped t k more h = length-hop (slotAt t k) more ∙ length-slotAt t k h
 
-  pub length-left : length (left t k) ≡ length t
-  unfolding left
-  length-left = length-withSlot t k h emptySlot refl
+module _ (b : Board) (t : List ℕ) (k : ℕ) (h : 16 * k + 16 ≤ length t) where
+  pub length-vacated : length (vacated b t k) ≡ length t
+  unfolding vacated
+  length-vacated = length-withSlot t k h emptySlot refl
 
-  pub left-other : (j : ℕ) → j ≢ k → slotAt (left t k) j ≡ slotAt t j
-  unfolding left
-  left-other j u = slotAt-other t k h emptySlot refl j u
+  -- a slot left by a packet holds only zeros
+  pub vacated-there : slotAt (vacated b t k) k ≡ emptySlot
+  unfolding vacated
+  vacated-there = slotAt-same t k h emptySlot refl
 
-module _ (t : List ℕ) (a b more : ℕ) (ha : 16 * a + 16 ≤ length t) (hb : 16 * b + 16 ≤ length t) where
-  hopped-length : length (hop (slotAt t a) more) ≡ 16
-  hopped-length = length-hop (slotAt t a) more ∙ length-slotAt t a ha
+  pub vacated-other : (j : ℕ) → j ≢ k → slotAt (vacated b t k) j ≡ slotAt t j
+  unfolding vacated
+  vacated-other j u = slotAt-other t k h emptySlot refl j u
 
-  halfway : length (withSlot t b (hop (slotAt t a) more)) ≡ length t
-  halfway = length-withSlot t b hb (hop (slotAt t a) more) hopped-length
+module _ (b : Board) (t : List ℕ) (a c more : ℕ) (ha : 16 * a + 16 ≤ length t) (hc : 16 * c + 16 ≤ length t) where
+  long : length (hop (slotAt t a) more) ≡ 16
+  long = length-hopped t a more ha
 
-  still : 16 * a + 16 ≤ length (withSlot t b (hop (slotAt t a) more))
-  still = rw halfway ha
+  fits : 16 * c + 16 ≤ length (vacated b t a)
+  fits = rw (length-vacated b t a ha) hc
 
-  pub length-carried : length (carried t a b more) ≡ length t
+  pub length-carried : length (carried b t a c more) ≡ length t
   unfolding carried
-  length-carried = length-left _ a still ∙ halfway
+  length-carried = length-withSlot (vacated b t a) c fits _ long ∙ length-vacated b t a ha
 
-  pub carried-from : slotAt (carried t a b more) a ≡ emptySlot
+  pub carried-to : slotAt (carried b t a c more) c ≡ hop (slotAt t a) more
   unfolding carried
-  carried-from = left-there _ a still
+  carried-to = slotAt-same (vacated b t a) c fits _ long
 
-  pub carried-to : a ≢ b → slotAt (carried t a b more) b ≡ hop (slotAt t a) more
+  -- every other slot is as the leaving makes it
+  pub carried-else : (j : ℕ) → j ≢ c → slotAt (carried b t a c more) j ≡ slotAt (vacated b t a) j
   unfolding carried
-  carried-to u = left-other _ a still b (λ e. u (sym e)) ∙ slotAt-same t b hb _ hopped-length
+  carried-else j u = slotAt-other (vacated b t a) c fits _ long j u
 
-  pub carried-other : (j : ℕ) → j ≢ a → j ≢ b → slotAt (carried t a b more) j ≡ slotAt t j
-  unfolding carried
-  carried-other j u w = left-other _ a still j u ∙ slotAt-other t b hb _ hopped-length j w
+  pub carried-from : a ≢ c → slotAt (carried b t a c more) a ≡ emptySlot
+  carried-from u = carried-else a u ∙ vacated-there b t a ha
+
+  pub carried-other : (j : ℕ) → j ≢ a → j ≢ c → slotAt (carried b t a c more) j ≡ slotAt t j
+  carried-other j u w = carried-else j w ∙ vacated-other b t a ha j u
 
 -- what follows the slots is not touched
-pub drop-left : (n : ℕ) (t : List ℕ) (k : ℕ) → k < n → 16 * n ≤ length t → drop (16 * n) (left t k) ≡ drop (16 * n) t
-unfolding left
-drop-left n t k h l = drop-withSlot n t k emptySlot h l refl
+pub drop-vacated : (b : Board) (n : ℕ) (t : List ℕ) (k : ℕ) → k < n → 16 * n ≤ length t → drop (16 * n) (vacated b t k) ≡ drop (16 * n) t
+unfolding vacated
+drop-vacated b n t k h l = drop-withSlot n t k emptySlot h l refl
 
-pub drop-carried : (n : ℕ) (t : List ℕ) (a b more : ℕ) → a < n → b < n → 16 * n ≤ length t → drop (16 * n) (carried t a b more) ≡ drop (16 * n) t
+pub drop-carried : (b : Board) (n : ℕ) (t : List ℕ) (a c more : ℕ) → a < n → c < n → 16 * n ≤ length t
+    → drop (16 * n) (carried b t a c more) ≡ drop (16 * n) t
 unfolding carried
-drop-carried n t a b more ha hb l =
-    let m = hopped-length t a b more (omega arith) (omega arith) in
-    let e = halfway t a b more (omega arith) (omega arith) in
-    drop-left n _ a ha (omega arith) ∙ drop-withSlot n t b _ hb l m
+drop-carried b n t a c more ha hc l =
+    let e = length-vacated b t a (omega arith) in
+    drop-withSlot n (vacated b t a) c _ hc (omega arith) (length-hopped t a more (omega arith)) ∙ drop-vacated b n t a ha l
 
 -- the trailer is kept
 module _ (t : List ℕ) {h : Head} (e : trailerOf t ≡ Good h) (l : length t ≡ h .size) where
-  pub trailer-left : (k : ℕ) → k < layoutOf h .size → trailerOf (left t k) ≡ Good h
-  unfolding left layoutOf
-  trailer-left k u = trailer-withSlot t k emptySlot e l u refl
+  pub trailer-vacated : (k : ℕ) → k < layoutOf (h .board) .size → trailerOf (vacated (h .board) t k) ≡ Good h
+  unfolding vacated
+  trailer-vacated k u = trailer-withSlot t k emptySlot e l u refl
 
-pub trailer-carried : (t : List ℕ) {h : Head} → trailerOf t ≡ Good h → length t ≡ h .size → (a b more : ℕ)
-    → a < layoutOf h .size → b < layoutOf h .size → trailerOf (carried t a b more) ≡ Good h
-unfolding carried layoutOf
-trailer-carried t e l a b more u w =
-    let z = table-sized t e l in
-    let fa = slot-fits z a u in
-    let fb = slot-fits z b w in
-    let n = hopped-length t a b more fa fb in
-    trailer-left (withSlot t b (hop (slotAt t a) more)) (trailer-withSlot t b (hop (slotAt t a) more) e l w n) (halfway t a b more fa fb ∙ l) a u
+  pub trailer-carried : (a c more : ℕ) → a < layoutOf (h .board) .size → c < layoutOf (h .board) .size → trailerOf (carried (h .board) t a c more) ≡ Good h
+  unfolding carried
+  trailer-carried a c more u w =
+      let z = table-sized t e l in
+      let fa = slot-fits z a u in
+      trailer-withSlot (vacated (h .board) t a) c (hop (slotAt t a) more) (trailer-vacated a u) (length-vacated (h .board) t a fa ∙ l) w (length-hopped t a more fa)

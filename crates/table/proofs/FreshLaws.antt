@@ -10,15 +10,18 @@ use Rattle.slots.specs.Bytes.{bytes32}
 use Rattle.slots.specs.Slots.{slotAt, withSlot, emptySlot}
 use Rattle.slots.proofs.Parts.{put-whole}
 use Rattle.slots.proofs.Numbers.{digits}
+use Rattle.table.specs.declared.board.Board.{Board}
 use Rattle.table.specs.declared.trailer.Head.{Head}
 use Rattle.table.specs.declared.trailer.Headed.the-variants.{Good}
-use Rattle.table.specs.Trailer.{Dims, slotCount, tableSize, headOf, trailerOf, last16, trailerBytes, fresh}
-use Rattle.table.proofs.Sizes.{slots-most}
+use Rattle.table.specs.Board.{GoodBoard}
+use Rattle.table.specs.Layout.{layoutOf, tableSize}
+use Rattle.table.specs.Trailer.{headOf, trailerOf, last16, trailerBytes, fresh}
+use Rattle.table.proofs.BoardLaws.{slots-most}
 use Rattle.table.proofs.TrailerLaws.{good-trailer}
 
-pub length-trailerBytes : (w h c p d : ℕ) → length (trailerBytes w h c p d) ≡ 16
+pub length-trailerBytes : (b : Board) (p d : ℕ) → length (trailerBytes b p d) ≡ 16
 unfolding trailerBytes bytes32
-length-trailerBytes w h c p d = refl
+length-trailerBytes b p d = refl
 
 -- n zeros
 abbrev blank : ℕ → List ℕ
@@ -31,57 +34,57 @@ blank-add : (n m : ℕ) → blank (n + m) ≡ blank n ++ blank m
 blank-add n m = sym (replicate-append-replicate n m 0)
 
 -- zeros, and then the trailer in the place of one more slot
-pub fresh-made : (w h c : ℕ) → withSlot (replicate (tableSize w h c) 0) (slotCount w h c) (trailerBytes w h c 0 0) ≡ fresh w h c
+pub fresh-made : (b : Board) → withSlot (replicate (tableSize b) 0) (layoutOf b .size) (trailerBytes b 0 0) ≡ fresh b
 unfolding fresh withSlot
-fresh-made w h c =
-    let n : ℕ = 16 * slotCount w h c in
-    let z : List ℕ = trailerBytes w h c 0 0 in
-    let l : n + length z ≡ length (blank (n + 16)) = rw (length-trailerBytes w h c 0 0, length-blank (n + 16)) in
+fresh-made b =
+    let n : ℕ = 16 * layoutOf b .size in
+    let z : List ℕ = trailerBytes b 0 0 in
+    let l : n + length z ≡ length (blank (n + 16)) = rw (length-trailerBytes b 0 0, length-blank (n + 16)) in
     let a : take n (blank (n + 16)) ≡ blank n = ap (take n) (blank-add n 16) ∙ take-at (blank n) (blank 16) n (length-blank n) in
     put-whole (blank (n + 16)) n z l ∙ rw a
 
-pub length-fresh : (w h c : ℕ) → length (fresh w h c) ≡ tableSize w h c
+pub length-fresh : (b : Board) → length (fresh b) ≡ tableSize b
 unfolding fresh
-length-fresh w h c = simp (length-append, length-replicate, length-trailerBytes)
+length-fresh b = simp (length-append, length-replicate, length-trailerBytes)
 
 -- what its trailer says
-abbrev pub freshHead : ℕ → ℕ → ℕ → Head
-freshHead w h c = record { width = w; height = h; depth = c; taken = 0; delivered = 0; size = tableSize w h c }
+abbrev pub freshHead : Board → Head
+freshHead b = record { board = b; taken = 0; delivered = 0; size = tableSize b }
 
-head-fresh : {w h c : ℕ} → Dims w h c → headOf (trailerBytes w h c 0 0) ≡ freshHead w h c
+head-fresh : {b : Board} → GoodBoard b → headOf (trailerBytes b 0 0) ≡ freshHead b
 unfolding trailerBytes bytes32
-head-fresh {w} {h} {c} d = rw (digits (tableSize w h c) (omega (arith, slots-most d)))
+head-fresh {b} g = rw (digits (tableSize b) (omega (arith, slots-most b g)))
 
-spare-fresh : (w h c : ℕ) → getD (trailerBytes w h c 0 0) 3 0 ≡ 0
+spare-fresh : (b : Board) → getD (trailerBytes b 0 0) 3 0 ≡ 0
 unfolding trailerBytes
-spare-fresh w h c = refl
+spare-fresh b = refl
 
-last-fresh : (w h c : ℕ) → last16 (fresh w h c) ≡ trailerBytes w h c 0 0
+last-fresh : (b : Board) → last16 (fresh b) ≡ trailerBytes b 0 0
 unfolding fresh
-last-fresh w h c =
-    let n : ℕ = 16 * slotCount w h c in
-    let at : length (fresh w h c) - 16 ≡ n = omega (arith, length-fresh w h c) in
-    rw at (drop-at (blank n) (trailerBytes w h c 0 0) n (length-blank n))
+last-fresh b =
+    let n : ℕ = 16 * layoutOf b .size in
+    let at : length (fresh b) - 16 ≡ n = omega (arith, length-fresh b) in
+    rw at (drop-at (blank n) (trailerBytes b 0 0) n (length-blank n))
 
-pub fresh-good : {w h c : ℕ} → Dims w h c → trailerOf (fresh w h c) ≡ Good (freshHead w h c)
-fresh-good {w} {h} {c} d =
-    let l : length (fresh w h c) ≡ tableSize w h c = length-fresh w h c in
-    let z : last16 (fresh w h c) ≡ trailerBytes w h c 0 0 = last-fresh w h c in
+pub fresh-good : {b : Board} → GoodBoard b → trailerOf (fresh b) ≡ Good (freshHead b)
+fresh-good {b} g =
+    let l : length (fresh b) ≡ tableSize b = length-fresh b in
+    let z : last16 (fresh b) ≡ trailerBytes b 0 0 = last-fresh b in
     good-trailer
     (record {
       long = omega arith;
-      read = sym (ap headOf z ∙ head-fresh d);
-      spare = ap (λ (b : List ℕ). getD b 3 0) z ∙ spare-fresh w h c;
-      ranges = d;
+      read = sym (ap headOf z ∙ head-fresh g);
+      spare = ap (λ (v : List ℕ). getD v 3 0) z ∙ spare-fresh b;
+      ranges = g;
       counts = zero-le;
       size-is = refl;
       size-in = omega arith;
     })
 
-pub fresh-slots : (w h c k : ℕ) → k < slotCount w h c → slotAt (fresh w h c) k ≡ emptySlot
+pub fresh-slots : (b : Board) (k : ℕ) → k < layoutOf b .size → slotAt (fresh b) k ≡ emptySlot
 unfolding fresh slotAt
-fresh-slots w h c k b =
+fresh-slots b k l =
     let a : ℕ = 16 * k in
-    let r : ℕ = 16 * slotCount w h c - (a + 16) in
-    let n : 16 * slotCount w h c ≡ a + (16 + r) = omega arith in
+    let r : ℕ = 16 * layoutOf b .size - (a + 16) in
+    let n : 16 * layoutOf b .size ≡ a + (16 + r) = omega arith in
     rw (n, blank-add a (16 + r), append-assoc, drop-at (blank a) _ a (length-blank a), blank-add 16 r)

@@ -1,8 +1,11 @@
 pub mod RefusalLaws
 pub mod Sizes
-pub mod TrailerLaws
-pub mod FreshLaws
 pub mod Places
+pub mod BoardLaws
+pub mod TrailerLaws
+pub mod CountLaws
+pub mod FreshLaws
+pub mod CallLaws
 pub mod PacketLaws
 pub mod QueueLaws
 pub mod CarriageLaws

@@ -1,29 +1,32 @@
--- What a good packet's bytes say: it is good in its place, its hops leave room for one more in their byte, and its slot is not empty.
+-- What a packet's bytes say: which of them the tests read, that a good one is good in its place, its hops leaving room for one more in their byte, and
+-- how a slot is seen.
 -- Assumes nothing.
-use Prim.Native.Nat.{ℕ, _<_, _≤_}
+use Prim.Native.Nat.{ℕ, _+_, _<_, _≤_}
 use mathlib.Core.Path.{_≡_, refl, sym, ap, _∙_}
-use mathlib.Core.Bool.{true, false}
+use mathlib.Core.Bool.{Bool, true, false, cond}
 use mathlib.Core.List.{List, [], _∷_}
 use native.Mathlib.Omega.{arith}
-use lib.ListN.{getD, take}
+use lib.ListN.{length, getD, take}
 use lib.Seq.{getD-take}
 use borrow.Author.Tests.{eqb-true}
 use Rattle.network.specs.declared.Kind.{Kind}
 use Rattle.network.specs.declared.Kind.the-variants.{Waiting, A, B}
 use Rattle.network.specs.declared.Place.{Place}
 use Rattle.network.specs.Net.{Net}
-use Rattle.network.specs.Packet.{fitsKind, good, Good}
+use Rattle.network.specs.Packet.{Packet, fitsKind, good, Good, withHops}
+use Rattle.network.specs.View.{empty, held}
 use Rattle.network.proofs.Course.{good-means}
-use Rattle.network.proofs.Tests.{and-l, clash}
-use Rattle.mesh.proofs.Metric.{distance-most}
+use Rattle.network.proofs.Tests.{and-l, clash, cond-true, cond-false}
 use Rattle.slots.specs.Bytes.{part}
 use Rattle.slots.specs.Slots.{slotAt, zeros}
 use Rattle.slots.proofs.Parts.{part-part}
 use Rattle.slots.proofs.Numbers.{le32-same}
 use Rattle.table.specs.declared.trailer.Head.{Head}
-use Rattle.table.specs.Layout.{GoodHead, netOf, layoutOf}
-use Rattle.table.specs.Packets.{packetOf, itemIn, goodAt, fieldsOf, packetBy, itemBy}
-use Rattle.table.proofs.Places.{layout-laws, valid-byte, place-byte}
+use Rattle.table.specs.Board.{GoodBoard, netOf}
+use Rattle.table.specs.Layout.{layoutOf}
+use Rattle.table.specs.Packets.{packetOf, slotOf, itemIn, goodAt, fieldsOf, packetBy, itemBy}
+use Rattle.table.specs.Carriage.{hop}
+use Rattle.table.proofs.BoardLaws.{layout-laws, valid-byte, place-byte, distance-byte}
 
 -- the fields are read of the first eight bytes
 pub fields-same : (v w : List ℕ) → take 8 v ≡ take 8 w → fieldsOf v ≡ fieldsOf w
@@ -53,11 +56,42 @@ module _ (h : Head) (t : List ℕ) (k : ℕ) (good-there : goodAt h t k ≡ true
   unfolding goodAt good
   mark-held = mark-not-zero (slotAt t k) (eqb-true _ _ (and-l _ _ good-there))
 
-  module _ (g : GoodHead h) (l : k < layoutOf h .size) where
-    pub good-here : Good (netOf h) (h .taken) (h .delivered) (itemIn h t k)
+  module _ (g : GoodBoard (h .board)) (l : k < layoutOf (h .board) .size) where
+    pub good-here : Good (netOf (h .board)) (h .taken) (h .delivered) (itemIn (h .board) t k)
     unfolding goodAt
-    good-here = good-means (netOf h) (h .taken) (h .delivered) (itemIn h t k) (layout-laws h g .on-net k l) good-there
+    good-here = good-means (netOf (h .board)) (h .taken) (h .delivered) (itemIn (h .board) t k) (layout-laws (h .board) g .on-net k l) good-there
 
     pub good-hops : getD (slotAt t k) 3 0 ≤ 30
     good-hops =
-        rw (good-here .made) (distance-most (getD (slotAt t k) 1 0) (layoutOf h .placeOf k .node) (valid-byte h g _ (good-here .from)) (place-byte h g k l))
+        rw (good-here .made)
+        (distance-byte (h .board) (getD (slotAt t k) 1 0) (layoutOf (h .board) .placeOf k .node) (valid-byte _ g _ (good-here .from)) (place-byte _ g k l))
+
+-- ---- a slot as it is seen
+
+pub slot-held : (v : List ℕ) → zeros v ≡ false → slotOf v ≡ held (packetOf v)
+slot-held v e = cond-false _ _ e
+
+pub slot-empty : (v : List ℕ) → zeros v ≡ true → slotOf v ≡ empty
+slot-empty v e = cond-true _ _ e
+
+pub slot-says : (v : List ℕ) (p : Packet) → slotOf v ≡ held p → (zeros v ≡ false) × (packetOf v ≡ p)
+slot-says v p e = go (zeros v) refl e
+  where
+    go : (b : Bool) → zeros v ≡ b → cond b empty (held (packetOf v)) ≡ held p → (zeros v ≡ false) × (packetOf v ≡ p)
+    go true f g = clash cc
+    go false f g = (f, cc)
+
+pub slot-zeros : (v : List ℕ) → slotOf v ≡ empty → zeros v ≡ true
+slot-zeros v e = go (zeros v) refl e
+  where
+    go : (b : Bool) → zeros v ≡ b → cond b empty (held (packetOf v)) ≡ empty → zeros v ≡ true
+    go true f g = f
+    go false f g = clash cc
+
+-- a packet's record with more hops
+pub packet-hop : (v : List ℕ) (more : ℕ) → 4 ≤ length v → packetOf (hop v more) ≡ withHops (packetOf v) (getD v 3 0 + more)
+packet-hop [] more h = absurd (omega arith)
+packet-hop (a ∷ []) more h = absurd (omega arith)
+packet-hop (a ∷ b ∷ []) more h = absurd (omega arith)
+packet-hop (a ∷ b ∷ c ∷ []) more h = absurd (omega arith)
+packet-hop (a ∷ b ∷ c ∷ d ∷ v) more h = refl

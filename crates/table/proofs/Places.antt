@@ -4,22 +4,19 @@ use Prim.Native.Nat.{ℕ, _+_, _-_, _*_, _/_, _%_, _<_, _≤_}
 use mathlib.Core.Path.{_≡_, refl}
 use mathlib.Core.Logic.{_≢_}
 use mathlib.Core.Bool.{Bool, true, false, cond}
-use mathlib.Core.List.{List}
 use native.Mathlib.Omega.{arith}
 use native.Mathlib.Nat.{mul-comm, mod-lt, div-add-mod', div-lt-iff-lt-mul}
 use lib.Arith.{digits-lt, digits-div, digits-mod}
 use lib.Dec.{eqb, leb}
-use lib.ListN.{length}
 use borrow.Author.Tests.{eqb-true, eqb-false, leb-true, leb-false, eq-eqb, ne-eqb, le-leb, lt-leb}
 use Rattle.network.specs.declared.Kind.{Kind}
 use Rattle.network.specs.declared.Kind.the-variants.{Waiting, A, B}
 use Rattle.network.specs.declared.Place.{Place}
-use Rattle.network.specs.View.{LayoutLaws}
 use Rattle.mesh.specs.Grid.{xOf, yOf, onGrid}
 use Rattle.mesh.proofs.Hops.{on-means, on-by}
-use Rattle.table.specs.declared.trailer.Head.{Head}
-use Rattle.table.specs.Trailer.{Sized}
-use Rattle.table.specs.Layout.{GoodHead, netOf, numberOf, nodeOf, perNode, offset, kindOf, roomOf, layoutOf}
+use Rattle.table.specs.declared.board.Board.{Board}
+use Rattle.table.specs.Board.{GoodBoard}
+use Rattle.table.specs.Layout.{numberOf, nodeOf, perNode, offset, kindOf, roomOf, layoutOf}
 
 -- ---- the slots of a node
 
@@ -79,54 +76,36 @@ module _ (width : ℕ) (low : 1 ≤ width) (high : width ≤ 16) (m : ℕ) where
 
 -- ---- the slots of a table
 
-module _ (h : Head) (g : GoodHead h) where
-  module _ (p : Place) (j : ℕ) (v : netOf h .valid (p .node) ≡ true) (u : j < layoutOf h .room (p .kind)) where
-    split : layoutOf h .first p + j ≡ numberOf (h .width) (p .node) * perNode (h .depth) + (offset (h .depth) (p .kind) + j)
+module _ (b : Board) where
+  module _ (p : Place) (j : ℕ) (v : onGrid (b .width) (b .height) (p .node) ≡ true) (u : j < layoutOf b .room (p .kind)) where
+    split : layoutOf b .first p + j ≡ numberOf (b .width) (p .node) * perNode (b .depth) + (offset (b .depth) (p .kind) + j)
     unfolding layoutOf
     split = omega arith
 
-    within : layoutOf h .first p + j < layoutOf h .size
+    pub queue-inside : layoutOf b .first p + j < layoutOf b .size
     unfolding layoutOf
-    within = rw split (digits-lt (number-lt _ _ (p .node) v) (in-node (h .depth) (p .kind) j u))
+    queue-inside = rw split (digits-lt (number-lt _ _ (p .node) v) (in-node (b .depth) (p .kind) j u))
 
-    there : layoutOf h .placeOf (layoutOf h .first p + j) ≡ p
+    pub queue-there : layoutOf b .placeOf (layoutOf b .first p + j) ≡ p
     unfolding layoutOf
-    there =
-        let m = numberOf (h .width) (p .node) in
-        let r = in-node (h .depth) (p .kind) j u in
+    queue-there =
+        let m = numberOf (b .width) (p .node) in
+        let r = in-node (b .depth) (p .kind) j u in
         rw (split, digits-div m r, digits-mod m r, node-there _ _ (p .node) v, kind-there _ (p .kind) j u)
 
-  pub layout-laws : LayoutLaws (netOf h) (layoutOf h)
-  unfolding layoutOf
-  layout-laws = record {
-    on-net = λ i l. node-on _ (g .width-low) (g .width-high) _ _ (div-lt-iff-lt-mul {k = perNode (h .depth)} (omega arith) .1 l);
-    within = within;
-    there = there;
-    roomy = room-pos (h .depth) (g .depth-low);
-  }
-
-  -- a queue's slots all lie in the table
-  pub queue-within : (p : Place) → netOf h .valid (p .node) ≡ true → layoutOf h .first p + layoutOf h .room (p .kind) ≤ layoutOf h .size
-  queue-within p v =
-      let some = layout-laws .roomy (p .kind) in
-      let last = within p (layoutOf h .room (p .kind) - 1) v (omega arith) in
-      omega arith
-
-  pub valid-byte : (n : ℕ) → netOf h .valid n ≡ true → n < 256
-  valid-byte n v = let a = on-means (h .width) (h .height) n v .1 in omega arith
-
-  module _ (i : ℕ) (l : i < layoutOf h .size) where
-    pub place-byte : layoutOf h .placeOf i .node < 256
-    place-byte = valid-byte _ (layout-laws .on-net i l)
-
-    pub slot-in-queue : (j : ℕ) × (j < layoutOf h .room (layoutOf h .placeOf i .kind)) × (i ≡ layoutOf h .first (layoutOf h .placeOf i) + j)
+  module _ (g : GoodBoard b) where
+    pub queue-roomy : (k : Kind) → 0 < layoutOf b .room k
     unfolding layoutOf
-    slot-in-queue =
-        let q = lies (h .depth) (i % perNode (h .depth)) (mod-lt i (omega arith)) in
-        let m = number-there (h .width) (g .width-low) (g .width-high) (i / perNode (h .depth)) in
-        (q .0, q .1, rw m (omega (arith, div-add-mod' i (perNode (h .depth)), q .2)))
+    queue-roomy = room-pos (b .depth) (g .depth-low)
 
--- a slot's 16 bytes lie in the table
-pub slot-fits : {h : Head} {t : List ℕ} → Sized h t → (k : ℕ) → k < layoutOf h .size → 16 * k + 16 ≤ length t
-unfolding layoutOf
-slot-fits z k l = omega (arith, z .full)
+    module _ (i : ℕ) (l : i < layoutOf b .size) where
+      pub place-on : onGrid (b .width) (b .height) (layoutOf b .placeOf i .node) ≡ true
+      unfolding layoutOf
+      place-on = node-on _ (g .width-low) (g .width-high) _ _ (div-lt-iff-lt-mul {k = perNode (b .depth)} (omega arith) .1 l)
+
+      pub own-queue : (j : ℕ) × (j < layoutOf b .room (layoutOf b .placeOf i .kind)) × (i ≡ layoutOf b .first (layoutOf b .placeOf i) + j)
+      unfolding layoutOf
+      own-queue =
+          let q = lies (b .depth) (i % perNode (b .depth)) (mod-lt i (omega arith)) in
+          let m = number-there (b .width) (g .width-low) (g .width-high) (i / perNode (b .depth)) in
+          (q .0, q .1, rw m (omega (arith, div-add-mod' i (perNode (b .depth)), q .2)))

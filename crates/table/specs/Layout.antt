@@ -1,4 +1,4 @@
--- The network and the layout that a head tells of. Node (x, y) has number y × width + x; slot number = node × (1 + 2c) + place in node
+-- Where the slots of a board's table are. Node (x, y) has number y × width + x; slot number = node × (1 + 2c) + place in node
 -- (document 01, "The table and its trailer").
 -- Assumes nothing.
 use Prim.Native.Nat.{ℕ, _+_, _*_, _/_, _%_}
@@ -6,18 +6,10 @@ use mathlib.Core.Bool.{cond}
 use lib.Dec.{leb, eqb}
 use Rattle.network.specs.declared.Kind.{Kind}
 use Rattle.network.specs.declared.Kind.the-variants.{Waiting, A, B}
-use Rattle.network.specs.Net.{Net, at}
+use Rattle.network.specs.Net.{at}
 use Rattle.network.specs.View.{Layout}
 use Rattle.mesh.specs.Grid.{xOf, yOf}
-use Rattle.mesh.specs.Mesh.{mesh}
-use Rattle.table.specs.declared.trailer.Head.{Head}
-use Rattle.table.specs.Trailer.{Dims, slotCount}
-
-abbrev pub GoodHead : Head → Type 0
-GoodHead h = Dims (h .width) (h .height) (h .depth)
-
-abbrev pub netOf : Head → Net
-netOf h = mesh (h .width) (h .height)
+use Rattle.table.specs.declared.board.Board.{Board}
 
 -- a node's number, and the node of a number
 abbrev pub numberOf : ℕ → ℕ → ℕ
@@ -43,10 +35,14 @@ roomOf depth Waiting = 1
 roomOf depth A = depth
 roomOf depth B = depth
 
-unfoldable pub layoutOf : Head → Layout
-layoutOf h = record {
-  size = slotCount (h .width) (h .height) (h .depth);
-  placeOf = λ s. at (nodeOf (h .width) (s / perNode (h .depth))) (kindOf (h .depth) (s % perNode (h .depth)));
-  first = λ p. numberOf (h .width) (p .node) * perNode (h .depth) + offset (h .depth) (p .kind);
-  room = roomOf (h .depth);
+unfoldable pub layoutOf : Board → Layout
+layoutOf b = record {
+  size = b .width * b .height * perNode (b .depth);
+  placeOf = λ s. at (nodeOf (b .width) (s / perNode (b .depth))) (kindOf (b .depth) (s % perNode (b .depth)));
+  first = λ p. numberOf (b .width) (p .node) * perNode (b .depth) + offset (b .depth) (p .kind);
+  room = roomOf (b .depth);
 }
+
+-- the table's bytes
+abbrev pub tableSize : Board → ℕ
+tableSize b = 16 * layoutOf b .size + 16

@@ -1,6 +1,8 @@
 pub mod Refusals
-pub mod Trailer
+pub mod Board
 pub mod Layout
+pub mod Trailer
+pub mod Calls
 pub mod Packets
 pub mod Queues
 pub mod Carriage

@@ -10,10 +10,11 @@ use Rattle.network.specs.Packet.{Packet, Item, good}
 use Rattle.network.specs.View.{Slot, empty, held, View, itemAt}
 use Rattle.slots.specs.Bytes.{part, le32}
 use Rattle.slots.specs.Slots.{slotAt, zeros}
-use Rattle.mesh.specs.Grid.{distanceOf}
+use Rattle.table.specs.declared.board.Board.{Board}
 use Rattle.table.specs.declared.trailer.Head.{Head}
 use Rattle.table.specs.declared.packets.Fields.{Fields}
-use Rattle.table.specs.Layout.{netOf, layoutOf}
+use Rattle.table.specs.Board.{netOf}
+use Rattle.table.specs.Layout.{layoutOf}
 
 -- what 16 bytes say
 abbrev pub packetOf : List ℕ → Packet
@@ -34,11 +35,11 @@ abbrev pub viewOf : Head → List ℕ → View
 viewOf h t = record { at = λ k. slotOf (slotAt t k); taken = h .taken; delivered = h .delivered }
 
 -- the packet of slot k in its place, and whether it is good
-abbrev pub itemIn : Head → List ℕ → ℕ → Item
-itemIn h t k = itemAt (layoutOf h) k (packetOf (slotAt t k))
+abbrev pub itemIn : Board → List ℕ → ℕ → Item
+itemIn b t k = itemAt (layoutOf b) k (packetOf (slotAt t k))
 
 unfoldable pub goodAt : Head → List ℕ → ℕ → Bool
-goodAt h t k = good (netOf h) (h .taken) (h .delivered) (itemIn h t k)
+goodAt h t k = good (netOf (h .board)) (h .taken) (h .delivered) (itemIn (h .board) t k)
 
 -- the same without the payload, which no test reads
 abbrev pub fieldsOf : List ℕ → Fields
@@ -50,7 +51,7 @@ packetBy f = record { mark = f .mark; source = f .source; destination = f .desti
 abbrev pub itemBy : Place → Fields → Item
 itemBy here f = record { place = here; packet = packetBy f }
 
-unfoldable pub courseOk : ℕ → Fields → Bool
-courseOk here f =
-    eqb (f .hops) (distanceOf (f .source) here)
-    && eqb (f .hops + distanceOf here (f .destination)) (distanceOf (f .source) (f .destination))
+unfoldable pub courseOk : Board → ℕ → Fields → Bool
+courseOk b here f =
+    eqb (f .hops) (netOf b .distance (f .source) here)
+    && eqb (f .hops + netOf b .distance here (f .destination)) (netOf b .distance (f .source) (f .destination))

@@ -1,50 +1,33 @@
 -- The trailer (document 01, "The table and its trailer"): byte 0 width, 1 height, 2 depth, 3 zero; 4 to 7 taken, 8 to 11 delivered, 12 to
 -- 15 the distance back to the table's first byte.
 -- Assumes nothing.
-use Prim.Native.Nat.{ℕ, _+_, _*_, _-_, _≤_}
+use Prim.Native.Nat.{ℕ, _*_, _-_, _≤_}
 use mathlib.Core.Path.{_≡_}
 use mathlib.Core.List.{List, _∷_, _++_}
 use mathlib.Core.Bool.{Bool, cond, _&&_}
 use lib.Dec.{leb, eqb}
 use lib.ListN.{length, getD, drop, replicate}
 use Rattle.slots.specs.Bytes.{le32, bytes32, put}
+use Rattle.table.specs.declared.board.Board.{Board}
 use Rattle.table.specs.declared.trailer.Head.{Head}
 use Rattle.table.specs.declared.trailer.Headed.{Headed}
 use Rattle.table.specs.declared.trailer.Headed.the-variants.{Good, Bad}
+use Rattle.table.specs.Board.{boardOk, GoodBoard}
+use Rattle.table.specs.Layout.{layoutOf, tableSize}
 
-abbrev pub inRange : ℕ → ℕ → ℕ → Bool
-inRange x low high = leb low x && leb x high
-
--- width 1 to 16, height 1 to 16, depth 1 to 7
-unfoldable pub dimsOk : ℕ → ℕ → ℕ → Bool
-dimsOk width height depth = inRange width 1 16 && (inRange height 1 16 && inRange depth 1 7)
-
--- the same, as facts
-pub record Dims (width height depth : ℕ) : Type 0 where
-  pub width-low : 1 ≤ width
-  pub width-high : width ≤ 16
-  pub height-low : 1 ≤ height
-  pub height-high : height ≤ 16
-  pub depth-low : 1 ≤ depth
-  pub depth-high : depth ≤ 7
-
--- S, and the table's bytes
-abbrev pub slotCount : ℕ → ℕ → ℕ → ℕ
-slotCount width height depth = width * height * (1 + 2 * depth)
-
-abbrev pub tableSize : ℕ → ℕ → ℕ → ℕ
-tableSize width height depth = 16 * slotCount width height depth + 16
+abbrev pub boardOf : List ℕ → Board
+boardOf z = record { width = getD z 0 0; height = getD z 1 0; depth = getD z 2 0 }
 
 abbrev pub headOf : List ℕ → Head
-headOf z = record { width = getD z 0 0; height = getD z 1 0; depth = getD z 2 0; taken = le32 z 4; delivered = le32 z 8; size = le32 z 12 }
+headOf z = record { board = boardOf z; taken = le32 z 4; delivered = le32 z 8; size = le32 z 12 }
 
 -- the ranges hold, byte 3 is zero, delivered is at most taken, and the distance equals 16 × S + 16 and is at most the slice's length, n
 unfoldable pub headOk : Head → ℕ → ℕ → Bool
 headOk h spare n =
-    dimsOk (h .width) (h .height) (h .depth)
+    boardOk (h .board)
     && (eqb spare 0
     && (leb (h .delivered) (h .taken)
-    && (eqb (h .size) (tableSize (h .width) (h .height) (h .depth))
+    && (eqb (h .size) (tableSize (h .board))
     && leb (h .size) n)))
 
 abbrev pub trailerIn : List ℕ → ℕ → Headed
@@ -63,15 +46,15 @@ pub record GoodTrailer (s : List ℕ) (h : Head) : Type 0 where
   pub long : 16 ≤ length s
   pub read : h ≡ headOf (last16 s)
   pub spare : getD (last16 s) 3 0 ≡ 0
-  pub ranges : Dims (h .width) (h .height) (h .depth)
+  pub ranges : GoodBoard (h .board)
   pub counts : h .delivered ≤ h .taken
-  pub size-is : h .size ≡ tableSize (h .width) (h .height) (h .depth)
+  pub size-is : h .size ≡ tableSize (h .board)
   pub size-in : h .size ≤ length s
 
--- t is a table with that head
-pub record Sized (h : Head) (t : List ℕ) : Type 0 where
-  pub dims : Dims (h .width) (h .height) (h .depth)
-  pub full : length t ≡ tableSize (h .width) (h .height) (h .depth)
+-- t is as long as a table of that board
+pub record Sized (b : Board) (t : List ℕ) : Type 0 where
+  pub board : GoodBoard b
+  pub full : length t ≡ tableSize b
 
 -- the table with another count of packets taken in, or delivered
 unfoldable pub withTaken : List ℕ → ℕ → List ℕ
@@ -80,10 +63,9 @@ withTaken t n = put t (length t - 12) (bytes32 n)
 unfoldable pub withDelivered : List ℕ → ℕ → List ℕ
 withDelivered t n = put t (length t - 8) (bytes32 n)
 
-unfoldable pub trailerBytes : ℕ → ℕ → ℕ → ℕ → ℕ → List ℕ
-trailerBytes width height depth taken delivered =
-    width ∷ height ∷ depth ∷ 0 ∷ (bytes32 taken ++ (bytes32 delivered ++ bytes32 (tableSize width height depth)))
+unfoldable pub trailerBytes : Board → ℕ → ℕ → List ℕ
+trailerBytes b taken delivered = b .width ∷ b .height ∷ b .depth ∷ 0 ∷ (bytes32 taken ++ (bytes32 delivered ++ bytes32 (tableSize b)))
 
 -- a fresh table: zeros and the fresh trailer
-unfoldable pub fresh : ℕ → ℕ → ℕ → List ℕ
-fresh width height depth = replicate (16 * slotCount width height depth) 0 ++ trailerBytes width height depth 0 0
+unfoldable pub fresh : Board → List ℕ
+fresh b = replicate (16 * layoutOf b .size) 0 ++ trailerBytes b 0 0

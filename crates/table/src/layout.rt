@@ -1,16 +1,26 @@
 // Where slots are: a node has one waiting slot, then its A slots, then its B slots. No caller computes a slot number.
-use crate::trailer::Head;
+use crate::board::Board;
 use network::Kind;
 use network::Place;
 ghost use mathlib.Core.Path.{_≡_};
 ghost use Prim.Native.Nat.{_≤_, _<_};
-ghost use Rattle.table.specs.Layout.{GoodHead, kindOf, offset, nodeOf, layoutOf, netOf};
+ghost use Rattle.table.specs.Board.{GoodBoard};
+ghost use Rattle.table.specs.Layout.{kindOf, offset, nodeOf, layoutOf, tableSize};
 
-pub fn slots_of(h: Head) -> usize
-    requires { ⌜ GoodHead h ⌝ }
-    ensures { λ r. ⌜ r ≡ layoutOf h .size ⌝ }
+// How many slots a table has.
+pub fn slots_of(b: Board) -> usize
+    requires { ⌜ GoodBoard b ⌝ }
+    ensures { λ r. ⌜ r ≡ layoutOf b .size ⌝ }
 {
-    crate::trailer::slot_count(h.width, h.height, h.depth)
+    b.width * b.height * (1 + 2 * b.depth)
+}
+
+// How many bytes.
+pub fn table_size(b: Board) -> usize
+    requires { ⌜ GoodBoard b ⌝ }
+    ensures { λ r. ⌜ r ≡ tableSize b ⌝ }
+{
+    16 * slots_of(b) + 16
 }
 
 // The kind of the slot at place `r` in its node.
@@ -36,14 +46,14 @@ fn node_of(width: usize, m: usize) -> u8
     (m % width + 16 * (m / width)) as u8
 }
 
-pub fn place_of(h: Head, slot: usize) -> Place
-    requires { ⌜ GoodHead h ⌝ }
-    requires { ⌜ slot < layoutOf h .size ⌝ }
-    ensures { λ r. ⌜ r ≡ layoutOf h .placeOf slot ⌝ }
+pub fn place_of(b: Board, slot: usize) -> Place
+    requires { ⌜ GoodBoard b ⌝ }
+    requires { ⌜ slot < layoutOf b .size ⌝ }
+    ensures { λ r. ⌜ r ≡ layoutOf b .placeOf slot ⌝ }
 {
-    let depth = h.depth;
+    let depth = b.depth;
     let per_node = 1 + 2 * depth;
-    let node = node_of(h.width, slot / per_node);
+    let node = node_of(b.width, slot / per_node);
     let kind = kind_of(depth, slot % per_node);
     Place { node, kind }
 }
@@ -61,31 +71,24 @@ fn offset_of(depth: usize, kind: Kind) -> usize
 }
 
 // A queue's first slot.
-pub fn first_slot(h: Head, p: Place) -> usize
-    requires { ⌜ GoodHead h ⌝ }
-    ensures { λ r. ⌜ r ≡ layoutOf h .first p ⌝ }
+pub fn first_slot(b: Board, p: Place) -> usize
+    requires { ⌜ GoodBoard b ⌝ }
+    ensures { λ r. ⌜ r ≡ layoutOf b .first p ⌝ }
 {
-    let depth = h.depth;
+    let depth = b.depth;
     let node = slots::wide(p.node);
     let kind = p.kind;
-    (node / 16 * h.width + node % 16) * (1 + 2 * depth) + offset_of(depth, kind)
+    (node / 16 * b.width + node % 16) * (1 + 2 * depth) + offset_of(depth, kind)
 }
 
 // How many slots a queue has.
-pub fn room_of(h: Head, kind: Kind) -> usize
-    ensures { λ r. ⌜ r ≡ layoutOf h .room kind ⌝ }
+pub fn room_of(b: Board, kind: Kind) -> usize
+    ensures { λ r. ⌜ r ≡ layoutOf b .room kind ⌝ }
 {
-    let depth = h.depth;
+    let depth = b.depth;
     match kind {
         Kind::Waiting => 1,
         Kind::A => depth,
         Kind::B => depth,
     }
-}
-
-// Is there such a node?
-pub fn on_board(h: Head, node: u8) -> bool
-    ensures { λ r. ⌜ r ≡ netOf h .valid node ⌝ }
-{
-    mesh::on_grid(h.width, h.height, node)
 }

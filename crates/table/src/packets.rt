@@ -1,4 +1,5 @@
 // What a held slot says, and whether it is good.
+use crate::board::Board;
 use crate::trailer::Head;
 use network::Kind;
 use network::Place;
@@ -8,7 +9,8 @@ ghost use lib.ListN.{length};
 ghost use Rattle.slots.specs.Slots.{slotAt};
 ghost use Rattle.network.specs.Packet.{fitsKind, good};
 ghost use Rattle.table.specs.Trailer.{Sized};
-ghost use Rattle.table.specs.Layout.{layoutOf, netOf};
+ghost use Rattle.table.specs.Board.{netOf};
+ghost use Rattle.table.specs.Layout.{layoutOf};
 ghost use Rattle.table.specs.Packets.{fieldsOf, packetBy, courseOk, itemBy, goodAt};
 
 // A packet's record but its payload.
@@ -34,8 +36,8 @@ pub fn read_fields(t: &[u8], k: usize) -> Fields
 }
 
 // In a waiting slot the source is here; in a B slot neither coordinate of the destination is greater than here's.
-fn fits_kind(h: Head, here: Place, f: Fields) -> bool
-    ensures { λ r. ⌜ r ≡ fitsKind (netOf h) (here .kind) (here .node) (packetBy f) ⌝ }
+fn fits_kind(b: Board, here: Place, f: Fields) -> bool
+    ensures { λ r. ⌜ r ≡ fitsKind (netOf b) (here .kind) (here .node) (packetBy f) ⌝ }
 {
     let kind = here.kind;
     let node = here.node;
@@ -44,32 +46,34 @@ fn fits_kind(h: Head, here: Place, f: Fields) -> bool
     match kind {
         Kind::Waiting => source == node,
         Kind::A => true,
-        Kind::B => mesh::settled(node, destination),
+        Kind::B => crate::board::settled(b, node, destination),
     }
 }
 
 // The hops made are the distance from the source to here, and this is on a shortest path to the destination.
-fn course_ok(here: u8, f: Fields) -> bool
-    ensures { λ r. ⌜ r ≡ courseOk here f ⌝ }
+fn course_ok(b: Board, here: u8, f: Fields) -> bool
+    ensures { λ r. ⌜ r ≡ courseOk b here f ⌝ }
 {
     let hops = f.hops as u32;
-    if hops != mesh::distance(f.source, here) {
+    if hops != crate::board::distance(b, f.source, here) {
         return false;
     }
-    hops + mesh::distance(here, f.destination) == mesh::distance(f.source, f.destination)
+    let ahead = crate::board::distance(b, here, f.destination);
+    hops + ahead == crate::board::distance(b, f.source, f.destination)
 }
 
 // Is a packet with this record good in that place?
 pub fn good_in(h: Head, here: Place, f: Fields) -> bool
-    ensures { λ r. ⌜ r ≡ good (netOf h) (h .taken) (h .delivered) (itemBy here f) ⌝ }
+    ensures { λ r. ⌜ r ≡ good (netOf (h .board)) (h .taken) (h .delivered) (itemBy here f) ⌝ }
 {
+    let b = h.board;
     if f.mark != 1 {
         return false;
     }
-    if !crate::layout::on_board(h, f.source) {
+    if !crate::board::is_node(b, f.source) {
         return false;
     }
-    if !crate::layout::on_board(h, f.destination) {
+    if !crate::board::is_node(b, f.destination) {
         return false;
     }
     if h.taken <= f.serial {
@@ -78,17 +82,18 @@ pub fn good_in(h: Head, here: Place, f: Fields) -> bool
     if h.taken <= h.delivered {
         return false;
     }
-    if !course_ok(here.node, f) {
+    if !course_ok(b, here.node, f) {
         return false;
     }
-    fits_kind(h, here, f)
+    fits_kind(b, here, f)
 }
 
 // Is the packet of slot `k` good?
 pub fn good_at(t: &[u8], h: Head, k: usize) -> bool
-    requires { ⌜ Sized h (now t) ⌝ }
-    requires { ⌜ k < layoutOf h .size ⌝ }
+    requires { ⌜ Sized (h .board) (now t) ⌝ }
+    requires { ⌜ k < layoutOf (h .board) .size ⌝ }
     ensures { λ r. ⌜ r ≡ goodAt h (now (t .entry)) k ⌝ }
 {
-    good_in(h, crate::layout::place_of(h, k), read_fields(t, k))
+    let b = h.board;
+    good_in(h, crate::layout::place_of(b, k), read_fields(t, k))
 }

@@ -1,14 +1,15 @@
 // The trailer: the last 16 bytes of a lent slice, and the counts in it.
+use crate::board::Board;
 ghost use mathlib.Core.Path.{_≡_};
 ghost use Prim.Native.Nat.{_≤_, _<_};
 ghost use lib.ListN.{length};
-ghost use Rattle.table.specs.Trailer.{inRange, dimsOk, Dims, slotCount, tableSize, headOf, headOk, trailerOf, withTaken, withDelivered, trailerBytes, fresh};
+ghost use Rattle.table.specs.Board.{GoodBoard};
+ghost use Rattle.table.specs.Layout.{tableSize};
+ghost use Rattle.table.specs.Trailer.{boardOf, headOf, headOk, trailerOf, withTaken, withDelivered, trailerBytes, fresh};
 
 // What a good trailer says. `size` is the table's length in bytes, the trailer's among them.
 pub struct Head {
-    pub width: usize,
-    pub height: usize,
-    pub depth: usize,
+    pub board: Board,
     pub taken: u32,
     pub delivered: u32,
     pub size: usize,
@@ -19,39 +20,15 @@ pub enum Headed {
     Bad,
 }
 
-fn within(x: usize, low: usize, high: usize) -> bool
-    ensures { λ r. ⌜ r ≡ inRange x low high ⌝ }
+fn board_of(z: &[u8]) -> Board
+    requires { ⌜ length (now z) ≡ 16 ⌝ }
+    ensures { λ r. ⌜ r ≡ boardOf (now (z .entry)) ⌝ }
 {
-    if x < low {
-        return false;
+    Board {
+        width: slots::wide(z[0]),
+        height: slots::wide(z[1]),
+        depth: slots::wide(z[2]),
     }
-    x <= high
-}
-
-pub fn dims_ok(width: usize, height: usize, depth: usize) -> bool
-    ensures { λ r. ⌜ r ≡ dimsOk width height depth ⌝ }
-{
-    if !within(width, 1, 16) {
-        return false;
-    }
-    if !within(height, 1, 16) {
-        return false;
-    }
-    within(depth, 1, 7)
-}
-
-pub fn slot_count(width: usize, height: usize, depth: usize) -> usize
-    requires { ⌜ Dims width height depth ⌝ }
-    ensures { λ r. ⌜ r ≡ slotCount width height depth ⌝ }
-{
-    width * height * (1 + 2 * depth)
-}
-
-pub fn table_size(width: usize, height: usize, depth: usize) -> usize
-    requires { ⌜ Dims width height depth ⌝ }
-    ensures { λ r. ⌜ r ≡ tableSize width height depth ⌝ }
-{
-    16 * slot_count(width, height, depth) + 16
 }
 
 fn head_of(z: &[u8]) -> Head
@@ -59,9 +36,7 @@ fn head_of(z: &[u8]) -> Head
     ensures { λ r. ⌜ r ≡ headOf (now (z .entry)) ⌝ }
 {
     Head {
-        width: slots::wide(z[0]),
-        height: slots::wide(z[1]),
-        depth: slots::wide(z[2]),
+        board: board_of(z),
         taken: slots::number::get32(z, 4),
         delivered: slots::number::get32(z, 8),
         size: slots::number::get32(z, 12) as usize,
@@ -72,7 +47,8 @@ fn head_of(z: &[u8]) -> Head
 fn head_ok(h: Head, spare: u8, n: usize) -> bool
     ensures { λ r. ⌜ r ≡ headOk h spare n ⌝ }
 {
-    if !dims_ok(h.width, h.height, h.depth) {
+    let b = h.board;
+    if !crate::board::board_ok(b) {
         return false;
     }
     if spare != 0 {
@@ -81,7 +57,7 @@ fn head_ok(h: Head, spare: u8, n: usize) -> bool
     if h.taken < h.delivered {
         return false;
     }
-    let size = table_size(h.width, h.height, h.depth);
+    let size = crate::layout::table_size(b);
     if h.size != size {
         return false;
     }
@@ -130,29 +106,29 @@ fn byte(x: usize) -> u8
 }
 
 // The trailer of a table into which no packet has been taken.
-fn fresh_trailer(width: usize, height: usize, depth: usize) -> [u8; 16]
-    requires { ⌜ Dims width height depth ⌝ }
-    ensures { λ r. ⌜ r ≡ trailerBytes width height depth 0 0 ⌝ }
+fn fresh_trailer(b: Board) -> [u8; 16]
+    requires { ⌜ GoodBoard b ⌝ }
+    ensures { λ r. ⌜ r ≡ trailerBytes b 0 0 ⌝ }
 {
-    let n = table_size(width, height, depth);
+    let n = crate::layout::table_size(b);
     let b0 = (n % 256) as u8;
     let b1 = (n / 256 % 256) as u8;
     let b2 = (n / 65536 % 256) as u8;
     let b3 = (n / 16777216 % 256) as u8;
-    let w = byte(width);
-    let h = byte(height);
-    let c = byte(depth);
+    let w = byte(b.width);
+    let h = byte(b.height);
+    let c = byte(b.depth);
     [w, h, c, 0, 0, 0, 0, 0, 0, 0, 0, 0, b0, b1, b2, b3]
 }
 
 // Makes `t`, of the table's length, a fresh table. The trailer lies where one more slot would.
-pub fn clear_table(t: &mut [u8], width: usize, height: usize, depth: usize)
-    requires { ⌜ Dims width height depth ⌝ }
-    requires { ⌜ length (now t) ≡ tableSize width height depth ⌝ }
-    ensures { λ _. ⌜ now (t .exit) ≡ fresh width height depth ⌝ }
+pub fn clear_table(t: &mut [u8], b: Board)
+    requires { ⌜ GoodBoard b ⌝ }
+    requires { ⌜ length (now t) ≡ tableSize b ⌝ }
+    ensures { λ _. ⌜ now (t .exit) ≡ fresh b ⌝ }
 {
-    let z = fresh_trailer(width, height, depth);
-    let k = slot_count(width, height, depth);
+    let z = fresh_trailer(b);
+    let k = crate::layout::slots_of(b);
     slots::zero_all(t);
     slots::write_slot(t, k, z);
 }

@@ -2,7 +2,7 @@
 -- Assumes nothing.
 use mathlib.Core.Path.{ap, _∙_}
 use borrow.Author.Needs.{needs}
-use Rattle.router.specs.Outcome.{outcome}
+use Rattle.table.specs.Calls.{outcome}
 use Rattle.survey.specs.declared.copying.Copied as copying
 use Rattle.survey.specs.Copy.{copyAnswer}
 use Rattle.paneglove.specs.declared.Copied.{Copied}

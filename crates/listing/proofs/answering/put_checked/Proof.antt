@@ -1,47 +1,28 @@
--- `listing::answering::put_checked` meets its contract: the check decides between its refusal and the table's lines.
+-- `listing::answering::put_checked` meets its contract: the first fault decides.
 -- Assumes nothing.
-use mathlib.Core.Path.{_≡_, sym, ap, _∙_}
+use mathlib.Core.Path.{_≡_, sym, _∙_}
 use borrow.Author.Needs.{needs}
-use Rattle.survey.specs.declared.checking.Checked.{Checked}
-use Rattle.survey.specs.declared.checking.Checked.the-variants.{Passes}
-use Rattle.survey.specs.Check.{checkedIn}
-use Rattle.listing.specs.Lines.{tableLines}
-use Rattle.listing.specs.Output.{verdictLine, unlessRefused}
-use Rattle.listing.proofs.OutputLaws.{refusing}
+use Rattle.network.specs.declared.Lowest.the-variants.{At, Nowhere}
+use Rattle.survey.specs.Check.{faultIn}
+use Rattle.survey.proofs.CheckLaws.{fault-fits}
 use Rattle.listing.proofs.answering.put_checked.Statement.{statement}
 use Rattle.listing.proofs.answering.put_checked.Tie as tie
 
 -- in the `else`, and past it
-refused-is : (c : tie.After-put-verdict-arg) →
-    let k = c .before .before in
-    let a = k .before .before .before .args in
-    unlessRefused (checkedIn (a .h) (a .t .now)) (tableLines (a .h) (a .t .now)) ≡ verdictLine (k .check-table .result)
-refused-is c =
-    let k = c .before .before in
-    let a = k .before .before .before .args in
-    let lines = tableLines (a .h) (a .t .now) in
-    sym (ap (λ (x : Checked). unlessRefused x lines) (k .check-table .ensures))
-    ∙ refusing (k .check-table .result) lines (c .before .match .keys2)
+passes : (c : tie.After-enum-told) → let a = c .before .before .before .before .before .args in faultIn (a .h) (a .t .now) ≡ Nowhere
+passes c = sym (c .before .before .first-fault .ensures) ∙ c .enum-told .given .1
 
-passes : (c : tie.After-enum-told) → let a = c .before .before .before .before .before .args in checkedIn (a .h) (a .t .now) ≡ Passes
-passes c = sym (c .before .before .check-table .ensures) ∙ c .enum-told .given .1
+named : (c : tie.After-place) → let a = c .before .before .before .before .before .args in faultIn (a .h) (a .t .now) ≡ At (c .place .given .0 .0)
+named c = sym (c .before .before .first-fault .ensures) ∙ c .place .given .1
 
-check-table-requires : tie.Need-check-table-requires
-check-table-requires c κs = search needs
+first-fault-requires : tie.Need-first-fault-requires
+first-fault-requires c κs = search needs
+
+enum-known-place : tie.Need-enum-known-place
+enum-known-place c = search needs
 
 enum-told : tie.Need-enum-told
 enum-told c = search needs
-
-put-verdict-requires : tie.Need-put-verdict-requires
-put-verdict-requires c κs = rw (refused-is c) at (c .before .before .before .before .before .pre .1 .1)
-
-same-length : tie.Need-same-length
-same-length c = search needs
-
-returns : tie.Need-returns
-returns c =
-    let p = c .before .before in
-    rw (refused-is (p .before)) (p .put-verdict .ensures)
 
 put-table-requires : tie.Need-put-table-requires
 put-table-requires c κs =
@@ -49,23 +30,43 @@ put-table-requires c κs =
     let s = c .before .before .before .before .before .before in
     (s .pre .0, (s .pre .1 .0, (e, rw e at (s .pre .1 .1))))
 
+same-length : tie.Need-same-length
+same-length c = search needs
+
+returns : tie.Need-returns
+returns c =
+    let p = c .before .before in
+    rw (passes (p .before .before)) (p .put-table .ensures)
+
+cast-put-fault : tie.Need-cast-put-fault
+cast-put-fault c =
+    let s = c .before .before .before .before .before .before .before in
+    fault-fits (s .args .h) (s .args .t .now) _ (s .pre .0 .board) (named (c .before .before))
+
+put-fault-requires : tie.Need-put-fault-requires
+put-fault-requires c κs =
+    let s = c .before .before .before .before .before .before .before in
+    rw (named (c .before .before)) at (s .pre .1 .1)
+
 same-length-2 : tie.Need-same-length-2
 same-length-2 c = search needs
 
 returns-2 : tie.Need-returns-2
 returns-2 c =
     let p = c .before .before in
-    rw (passes (p .before .before)) (p .put-table .ensures)
+    rw (named (p .before .before .before)) (p .put-fault .ensures)
 
 pub put-checked-spec : {M : Type 1} → statement M
 put-checked-spec =
     tie.close
     (tie.spec
-    check-table-requires
+    first-fault-requires
+    enum-known-place
     enum-told
-    put-verdict-requires
+    put-table-requires
     same-length
     returns
-    put-table-requires
+    cast-put-fault
+    put-fault-requires
     same-length-2
     returns-2)

@@ -5,7 +5,7 @@ use borrow.Author.Needs.{needs}
 use Rattle.table.specs.declared.trailer.Headed.the-variants.{Good}
 use Rattle.table.specs.Trailer.{trailerOf}
 use Rattle.table.proofs.TrailerLaws.{trailer-good}
-use Rattle.router.proofs.OnTable.{start-in, lent-sized}
+use Rattle.table.proofs.CallLaws.{start-in, lent-sized}
 use Rattle.listing.specs.Output.{refusalLine, listing}
 use Rattle.listing.proofs.OutputLaws.{listing-long, listing-bad, listing-lent}
 use Rattle.listing.proofs.answering.put_listing.Statement.{statement}

@@ -4,7 +4,7 @@ use mathlib.Core.Path.{refl, ap, _∙_}
 use borrow.Author.Needs.{needs}
 use borrow.Author.Tests.{le-ltb}
 use Rattle.network.proofs.Tests.{cond-false}
-use Rattle.router.proofs.OneOutcome.{both}
+use Rattle.table.proofs.CallLaws.{both}
 use Rattle.listing.specs.declared.answering.Listed.{Listed}
 use Rattle.listing.specs.Output.{verdictInto}
 use Rattle.listing.specs.Outward.{sent}

@@ -8,20 +8,22 @@ use Rattle.listing.proofs.writing.put_head.Tie as tie
 
 put-grid-requires : tie.Need-put-grid-requires
 unfolding headLine
-put-grid-requires c κs = (c .before .before .pre .0, first-fits _ _ (first-fits _ _ (c .before .before .pre .1)))
+put-grid-requires c κs =
+    let s = c .before .before .before in
+    (s .pre .0, first-fits _ _ (first-fits _ _ (s .pre .1)))
 
 put-counts-requires : tie.Need-put-counts-requires
 unfolding headLine
 put-counts-requires c κs =
     let p = c .before .before .before in
-    next-fits (p .put-grid .ensures) (first-fits _ _ (p .before .before .before .pre .1))
+    next-fits (p .put-grid .ensures) (first-fits _ _ (p .before .before .before .before .pre .1))
 
 put-byte-requires : tie.Need-put-byte-requires
 unfolding headLine
 put-byte-requires c κs =
     let q = c .before .before .before in
     let p = q .before .before .before .before in
-    next-fits (then (p .put-grid .ensures) (q .put-counts .ensures)) (p .before .before .before .pre .1)
+    next-fits (then (p .put-grid .ensures) (q .put-counts .ensures)) (p .before .before .before .before .pre .1)
 
 same-length : tie.Need-same-length
 same-length c = search needs

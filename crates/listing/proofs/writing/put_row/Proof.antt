@@ -4,10 +4,8 @@ use mathlib.Core.Path.{_≡_, sym, _∙_}
 use native.Mathlib.Omega.{arith}
 use borrow.Author.Needs.{needs}
 use Rattle.network.proofs.Tests.{held, failed}
-use Rattle.table.specs.Layout.{layoutOf}
 use Rattle.table.specs.Packets.{itemBy}
-use Rattle.table.proofs.Sizes.{slots-most}
-use Rattle.table.proofs.Places.{slot-fits}
+use Rattle.table.proofs.BoardLaws.{slots-most, slot-fits}
 use Rattle.text.proofs.PutLaws.{wrote-nothing}
 use Rattle.listing.specs.Lines.{slotLine, rowAt}
 use Rattle.listing.proofs.RowLaws.{row-empty, row-held, line-by}
@@ -17,12 +15,12 @@ use Rattle.listing.proofs.writing.put_row.Tie as tie
 -- past the test the row is the line of what has been read
 row-is : (c : tie.After-read-fields) →
     let a = c .before .before .before .before .before .before .args in
-    slotLine (a .k) (itemBy (c .before .place-of .result) (c .read-fields .result)) ≡ rowAt (a .h) (a .t .now) (a .k)
+    slotLine (a .board) (a .k) (itemBy (c .before .place-of .result) (c .read-fields .result)) ≡ rowAt (a .board) (a .t .now) (a .k)
 row-is c =
     let e = c .before .before .before in
     let a = e .before .before .before .args in
     rw (c .before .place-of .ensures, c .read-fields .ensures)
-    (line-by (a .h) (a .t .now) (a .k) ∙ sym (row-held (a .h) (a .t .now) (a .k) (failed (e .slot-empty .ensures) (c .before .before .if1 .left))))
+    (line-by (a .board) (a .t .now) (a .k) ∙ sym (row-held (a .board) (a .t .now) (a .k) (failed (e .slot-empty .ensures) (c .before .before .if1 .left))))
 
 slot-empty-requires : tie.Need-slot-empty-requires
 slot-empty-requires c κs = slot-fits (c .before .before .pre .0) _ (c .before .before .pre .1 .0)
@@ -32,7 +30,7 @@ returns c =
     let e = c .before in
     let s = e .before .before .before in
     let a = s .args in
-    rw (row-empty (a .h) (a .t .now) (a .k) (held (e .slot-empty .ensures) (c .if1 .taken)))
+    rw (row-empty (a .board) (a .t .now) (a .k) (held (e .slot-empty .ensures) (c .if1 .taken)))
     (wrote-nothing (a .buf .now) (a .at) (omega (arith, s .pre .1 .1 .room)))
 
 place-of-requires : tie.Need-place-of-requires
@@ -44,10 +42,9 @@ read-fields-requires c κs =
     slot-fits (s .pre .0) _ (s .pre .1 .0)
 
 cast-put-slot-line : tie.Need-cast-put-slot-line
-unfolding layoutOf
 cast-put-slot-line c =
     let s = c .before .before .before .before .before .before .before in
-    omega (arith, s .pre .1 .0, slots-most (s .pre .0 .dims))
+    omega (arith, s .pre .1 .0, slots-most _ (s .pre .0 .board))
 
 put-slot-line-requires : tie.Need-put-slot-line-requires
 put-slot-line-requires c κs = rw (row-is (c .before)) (c .before .before .before .before .before .before .before .pre .1 .1)

@@ -14,11 +14,11 @@ use Rattle.listing.proofs.writing.put_rows.Statement.{statement}
 use Rattle.listing.proofs.writing.put_rows.Tie as tie
 
 abbrev Inv-loop : tie.InvT-loop
-Inv-loop buf₀ at t h n end₀ k₀ buf end k =
-    (k ≤ n) × (length buf ≡ length buf₀) × Wrote buf₀ at (rowsBelow h t k) buf end
+Inv-loop buf₀ at t board n end₀ k₀ buf end k =
+    (k ≤ n) × (length buf ≡ length buf₀) × Wrote buf₀ at (rowsBelow board t k) buf end
 
 abbrev μ-loop : tie.MeasureT-loop
-μ-loop buf₀ at t h n end₀ k₀ buf end k = n - k
+μ-loop buf₀ at t board n end₀ k₀ buf end k = n - k
 
 slots-of-requires : tie.Need-slots-of-requires Inv-loop μ-loop
 slots-of-requires c κs = search needs
@@ -27,15 +27,15 @@ loop-holds : tie.Need-loop-holds Inv-loop μ-loop
 loop-holds c =
     let s = c .before .before .before in
     let a = s .args in
-    (omega arith, refl, rw (rows-none (a .h) (a .t .now)) (wrote-nothing (a .buf .now) (a .at) (omega (arith, s .pre .1 .room))))
+    (omega arith, refl, rw (rows-none (a .board) (a .t .now)) (wrote-nothing (a .buf .now) (a .at) (omega (arith, s .pre .1 .room))))
 
 put-row-requires : tie.Need-put-row-requires Inv-loop μ-loop
 put-row-requires c κs =
     let l = c .before .before .loop in
     let n = c .before .before .before in
     let s = n .before .before .before in
-    let below : l .k < layoutOf (s .args .h) .size = omega (arith, n .slots-of .ensures) in
-    (s .pre .0, (below, next-fits (l .inv .2) (row-fits (s .args .h) (s .args .t .now) _ (l .k) below (s .pre .1))))
+    let below : l .k < layoutOf (s .args .board) .size = omega (arith, n .slots-of .ensures) in
+    (s .pre .0, (below, next-fits (l .inv .2) (row-fits (s .args .board) (s .args .t .now) _ (l .k) below (s .pre .1))))
 
 add-k : tie.Need-add-k Inv-loop μ-loop
 add-k c = omega arith
@@ -48,7 +48,7 @@ loop-again c =
     let l = c .before .before .before .before .before in
     let a = l .before .before .before .before .args in
     let w = then (l .loop .inv .2) (c .before .before .put-row .ensures) in
-    (omega arith, wrote-long w, rw (rows-more (a .h) (a .t .now) (l .loop .k)) w)
+    (omega arith, wrote-long w, rw (rows-more (a .board) (a .t .now) (l .loop .k)) w)
 
 same-length : tie.Need-same-length Inv-loop μ-loop
 same-length c = c .before .loop .inv .1

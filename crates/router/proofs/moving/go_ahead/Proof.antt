@@ -1,25 +1,31 @@
 -- `router::moving::go_ahead` meets its contract: each arm by the rule's answer.
 -- Assumes nothing.
 use borrow.Author.Needs.{needs}
-use Rattle.router.specs.Move.{ahead}
+use Rattle.router.specs.Verdicts.{ahead}
 use Rattle.router.proofs.moving.go_ahead.Statement.{statement}
 use Rattle.router.proofs.moving.go_ahead.Tie as tie
 
 enum-known-lead : tie.Need-enum-known-lead
 enum-known-lead c = search needs
 
-to-queue-requires : tie.Need-to-queue-requires
-to-queue-requires c κs =
+room-at-requires : tie.Need-room-at-requires
+room-at-requires c κs =
     let s = c .before .before .before .before in
     (s .pre .0, rw (c .before .lead .given .1) at (s .pre .1))
+
+go-into-requires : tie.Need-go-into-requires
+go-into-requires c κs = search needs
 
 enum-known-lead-2 : tie.Need-enum-known-lead-2
 enum-known-lead-2 c = search needs
 
-to-queue-requires-2 : tie.Need-to-queue-requires-2
-to-queue-requires-2 c κs =
+room-at-requires-2 : tie.Need-room-at-requires-2
+room-at-requires-2 c κs =
     let s = c .before .before .before .before in
     (s .pre .0, rw (c .before .lead2 .given .1) at (s .pre .1))
+
+go-into-requires-2 : tie.Need-go-into-requires-2
+go-into-requires-2 c κs = search needs
 
 enum-told : tie.Need-enum-told
 enum-told c = search needs
@@ -32,11 +38,11 @@ refuse-requires c κs = search needs
 
 returns : tie.Need-returns
 unfolding ahead
-returns c = rw (c .before .before .lead .given .1) (c .to-queue .ensures)
+returns c = rw (c .before .before .before .lead .given .1, ← c .before .room-at .ensures) (c .go-into .ensures)
 
 returns-2 : tie.Need-returns-2
 unfolding ahead
-returns-2 c = rw (c .before .before .lead2 .given .1) (c .to-queue2 .ensures)
+returns-2 c = rw (c .before .before .before .lead2 .given .1, ← c .before .room-at2 .ensures) (c .go-into2 .ensures)
 
 returns-3 : tie.Need-returns-3
 unfolding ahead
@@ -51,9 +57,11 @@ go-ahead-spec =
     tie.close
     (tie.spec
     enum-known-lead
-    to-queue-requires
+    room-at-requires
+    go-into-requires
     enum-known-lead-2
-    to-queue-requires-2
+    room-at-requires-2
+    go-into-requires-2
     enum-told
     enum-told-2
     refuse-requires

@@ -1,16 +1,16 @@
 -- `router::moving::hand_out` meets its contract: exact effects, one after the other.
 -- Assumes nothing.
 use borrow.Author.Needs.{needs}
-use Rattle.table.proofs.Places.{slot-fits}
+use Rattle.table.proofs.BoardLaws.{slot-fits}
 use Rattle.router.specs.Move.{handedOut}
 use Rattle.router.proofs.moving.hand_out.Statement.{statement}
 use Rattle.router.proofs.moving.hand_out.Tie as tie
 
 read-slot-requires : tie.Need-read-slot-requires
-read-slot-requires c κs = let s = c .before .before in slot-fits (s .pre .0) _ (s .pre .1 .0)
+read-slot-requires c κs = let s = c .before .before .before in slot-fits (s .pre .0) _ (s .pre .1 .0)
 
 leave-requires : tie.Need-leave-requires
-leave-requires c κs = let s = c .before .before .before .before in slot-fits (s .pre .0) _ (s .pre .1 .0)
+leave-requires c κs = let s = c .before .before .before .before .before in slot-fits (s .pre .0) _ (s .pre .1 .0)
 
 add-put-delivered : tie.Need-add-put-delivered
 add-put-delivered c = search needs

@@ -5,19 +5,21 @@ use mathlib.Core.Path.{_≡_, sym, ap, _∙_}
 use mathlib.Core.Bool.{true, not}
 use native.Mathlib.Omega.{arith}
 use Rattle.network.proofs.Tests.{cond-true, held, not-failed}
-use Rattle.table.specs.Layout.{netOf}
-use Rattle.table.proofs.Places.{slot-fits}
-use Rattle.router.proofs.MoveLaws.{Named, due-named, goes, due-refuses, slot-refuses, slot-passes}
+use Rattle.table.specs.Board.{netOf}
+use Rattle.table.proofs.BoardLaws.{slot-fits}
+use Rattle.router.specs.Move.{moveDue}
+use Rattle.router.proofs.NamedLaws.{Named, due-named, targets}
+use Rattle.router.proofs.VerdictLaws.{due-refuses, slot-refuses, slot-passes}
 use Rattle.router.proofs.moving.judge.Statement.{statement}
 use Rattle.router.proofs.moving.judge.Tie as tie
 
 -- past the first test the code is known, and past the second the slot holds a good packet
-known : (c : tie.Else1) → netOf (c .before .before .before .args .h) .known (c .before .before .before .args .code) ≡ true
+known : (c : tie.Else1) → netOf (c .before .before .before .before .args .h .board) .known (c .before .before .before .before .args .code) ≡ true
 known c = not-failed (c .before .is-code .ensures) (c .if1 .left)
 
 named : (c : tie.Else2)
-    → Named (c .before .before .before .before .before .args .h) (c .before .before .before .before .before .args .t .now)
-    (c .before .before .before .before .before .args .slot)
+    → Named (c .before .before .before .before .before .before .args .h) (c .before .before .before .before .before .before .args .t .now)
+    (c .before .before .before .before .before .before .args .slot)
 named c = due-named _ _ _ (sym (c .before .slot-due .ensures) ∙ c .if2 .left)
 
 is-code-requires : tie.Need-is-code-requires
@@ -27,8 +29,9 @@ refuse-requires : tie.Need-refuse-requires
 refuse-requires c κs = search needs
 
 returns : tie.Need-returns
+unfolding moveDue
 returns c =
-    let a = c .before .before .before .before .args in
+    let a = c .before .before .before .before .before .args in
     let due = cond-true _ _ (held (ap not (c .before .before .is-code .ensures)) (c .before .if1 .taken)) in
     c .refuse .ensures ∙ sym (due-refuses (a .h) (a .t .now) (a .slot) (a .code) 2 (sym due) (λ e. omega arith))
 
@@ -41,15 +44,15 @@ refuse-requires-2 c κs = search needs
 returns-2 : tie.Need-returns-2
 returns-2 c =
     let d = c .before .before in
-    let a = d .before .before .before .before .args in
+    let a = d .before .before .before .before .before .args in
     c .refuse2 .ensures
     ∙ sym (slot-refuses (a .h) (a .t .now) (a .slot) (a .code) (known (d .before)) _ (d .slot-due .ensures) (c .before .if2 .taken))
 
 place-of-requires : tie.Need-place-of-requires
-place-of-requires c κs = (c .before .before .before .before .before .pre .dims, named c .inside)
+place-of-requires c κs = (c .before .before .before .before .before .before .pre .board, named c .inside)
 
 slot-byte-requires : tie.Need-slot-byte-requires
-slot-byte-requires c κs = (slot-fits (c .before .before .before .before .before .before .pre) _ (named (c .before) .inside), omega arith)
+slot-byte-requires c κs = (slot-fits (c .before .before .before .before .before .before .before .pre) _ (named (c .before) .inside), omega arith)
 
 rule-requires : tie.Need-rule-requires
 rule-requires c κs = search needs
@@ -57,13 +60,13 @@ rule-requires c κs = search needs
 go-ahead-requires : tie.Need-go-ahead-requires
 go-ahead-requires c κs =
     let p = c .before .before in
-    let s = p .before .before .before .before .before .before in
-    (s .pre, rw (c .rule .ensures, c .before .slot-byte .ensures, p .place-of .ensures) (goes (named (p .before)) (s .pre .dims) (s .args .code)))
+    let s = p .before .before .before .before .before .before .before in
+    (s .pre, rw (c .rule .ensures, c .before .slot-byte .ensures, p .place-of .ensures) (targets (named (p .before)) (s .pre .board) (s .args .code)))
 
 returns-3 : tie.Need-returns-3
 returns-3 c =
     let p = c .before .before .before in
-    let a = p .before .before .before .before .before .before .args in
+    let a = p .before .before .before .before .before .before .before .args in
     cc (slot-passes (a .h) (a .t .now) (a .slot) (a .code) (known (p .before .before .before)) (named (p .before)))
 
 pub judge-spec : {M : Type 1} → statement M

@@ -4,10 +4,10 @@ use borrow.Author.Needs.{needs}
 use mathlib.Core.Path.{_≡_, sym, ap, _∙_}
 use Rattle.table.specs.declared.trailer.Headed.the-variants.{Good}
 use Rattle.table.specs.Trailer.{trailerOf}
+use Rattle.table.specs.Calls.{outcome}
 use Rattle.router.specs.declared.moving.Moved.{Moved}
-use Rattle.router.specs.Outcome.{outcome}
-use Rattle.router.specs.Move.{refusal, movedIn, movedInSlice}
-use Rattle.router.proofs.OnTable.{on-table-bad, start-in, lent-sized, ends-on-table}
+use Rattle.router.specs.Move.{refusal, movedIn, movedSlice}
+use Rattle.table.proofs.CallLaws.{on-table-bad, start-in, lent-sized, ends-on-table}
 use Rattle.router.proofs.moving.make_move.Statement.{statement}
 use Rattle.router.proofs.moving.make_move.Tie as tie
 
@@ -31,12 +31,12 @@ same-length : tie.Need-same-length
 same-length c = search needs
 
 returns : tie.Need-returns
-unfolding movedInSlice
+unfolding movedSlice
 returns c =
     let v = c .before .before .before in
     let s = v .before .before .before .args .s .now in
     ap (λ (m : Moved). outcome m s) (c .refused .ensures)
-    ∙ sym (on-table-bad s (refusal 1) _ (sym (v .trailer .ensures) ∙ c .before .enum-told .given .1))
+    ∙ sym (on-table-bad s refusal _ (sym (v .trailer .ensures) ∙ c .before .enum-told .given .1))
 
 sub-start : tie.Need-sub-start
 sub-start c = start-in _ _ (told (c .before))
@@ -57,12 +57,12 @@ same-length-2 : tie.Need-same-length-2
 same-length-2 c = search needs
 
 returns-2 : tie.Need-returns-2
-unfolding movedInSlice
+unfolding movedSlice
 returns-2 c =
     let i = c .before .before .move-in-table in
     let k = c .before .before .before .before .before in
     let a = k .before .before .before .before .before .args in
-    ends-on-table (a .s .now) (k .h .given .0 .0) (told k) (refusal 1) (λ h t. movedIn h t (a .slot) (a .code)) (i .result) (i .last .0) (i .kept .0)
+    ends-on-table (a .s .now) (k .h .given .0 .0) (told k) refusal (λ h t. movedIn h t (a .slot) (a .code)) (i .result) (i .last .0) (i .kept .0)
     (i .ensures)
 
 pub make-move-spec : {M : Type 1} → statement M

@@ -2,25 +2,27 @@
 -- Assumes nothing.
 use borrow.Author.Needs.{needs}
 use Prim.Native.Nat.{_<_}
-use mathlib.Core.Path.{sym, ap, _∙_}
+use mathlib.Core.Bool.{false}
+use mathlib.Core.Path.{_≡_, sym, ap, _∙_}
 use native.Mathlib.Omega.{arith}
 use Rattle.table.specs.Layout.{layoutOf}
-use Rattle.table.proofs.Places.{slot-fits}
-use Rattle.table.proofs.Sizes.{slots-most}
+use Rattle.table.specs.Calls.{outcome}
+use Rattle.table.proofs.BoardLaws.{slots-most, slot-fits}
 use Rattle.router.specs.declared.moving.Moved.{Moved}
-use Rattle.router.specs.Outcome.{outcome}
-use Rattle.router.proofs.MoveLaws.{Named, named-good, accepted, moved-refused, moved-out, moved-on, target-within, hops-fit}
+use Rattle.router.proofs.NamedLaws.{Named, named-good}
+use Rattle.router.proofs.VerdictLaws.{granted, verdict-refused, verdict-out, verdict-on, target-within, target-apart, hops-fit}
 use Rattle.router.proofs.moving.move_in_table.Statement.{statement}
 use Rattle.router.proofs.moving.move_in_table.Tie as tie
 
 -- past the first test the slot holds a good packet, and the target lies in the table
 named : (c : tie.Else1)
-    → Named (c .before .before .before .before .args .h) (c .before .before .before .before .args .t .now)
-    (c .before .before .before .before .args .slot)
-named c = accepted _ _ _ _ _ (c .before .judge .ensures) (c .if1 .left) .named
+    → Named (c .before .before .before .before .before .args .h) (c .before .before .before .before .before .args .t .now)
+    (c .before .before .before .before .before .args .slot)
+named c = granted _ _ _ _ _ (c .before .judge .ensures) (c .if1 .left) .named
 
-target : (c : tie.Else1) → c .before .judge .result .slot < layoutOf (c .before .before .before .before .args .h) .size
-target c = target-within _ _ _ _ _ (c .before .judge .ensures) (c .if1 .left) (c .before .before .before .before .pre .dims)
+target : (c : tie.Else1) → c .before .judge .result .leaves ≡ false
+    → c .before .judge .result .slot < layoutOf (c .before .before .before .before .before .args .h .board) .size
+target c l = target-within _ _ _ _ _ (c .before .judge .ensures) (c .if1 .left) (c .before .before .before .before .before .pre .board) l
 
 judge-requires : tie.Need-judge-requires
 judge-requires c κs = search needs
@@ -34,15 +36,15 @@ same-length c = search needs
 returns : tie.Need-returns
 returns c =
     let v = c .before .before in
-    let a = v .before .before .before .args in
+    let a = v .before .before .before .before .args in
     ap (λ (m : Moved). outcome m (a .t .now)) (c .refused .ensures)
-    ∙ sym (moved-refused (a .h) (a .t .now) (a .slot) (a .code) _ (v .judge .ensures) (c .before .if1 .taken))
+    ∙ sym (verdict-refused (a .h) (a .t .now) (a .slot) (a .code) _ (v .judge .ensures) (c .before .if1 .taken))
 
 hand-out-requires : tie.Need-hand-out-requires
 hand-out-requires c κs =
-    let s = c .before .before .before .before .before .before in
+    let s = c .before .before .before .before .before .before .before in
     let n = named (c .before .before) in
-    (s .pre, (n .inside, named-good n (s .pre .dims) .due))
+    (s .pre, (n .inside, named-good n (s .pre .board) .due))
 
 same-length-2 : tie.Need-same-length-2
 same-length-2 c = search needs
@@ -51,23 +53,31 @@ returns-2 : tie.Need-returns-2
 returns-2 c =
     let k = c .before .before .before .before in
     let v = k .before .before in
-    let a = v .before .before .before .args in
+    let a = v .before .before .before .before .args in
     c .before .before .hand-out .ensures
-    ∙ sym (moved-out (a .h) (a .t .now) (a .slot) (a .code) _ (v .judge .ensures) (k .before .if1 .left) (k .if2 .taken))
+    ∙ sym (verdict-out (a .h) (a .t .now) (a .slot) (a .code) _ (v .judge .ensures) (k .before .if1 .left) (k .if2 .taken))
 
 carry-requires : tie.Need-carry-requires
 carry-requires c κs =
     let k = c .before .before in
-    let s = k .before .before .before .before in (
+    let v = k .before .judge in
+    let stays = c .before .if2 .left in
+    let s = k .before .before .before .before .before in (
       slot-fits (s .pre) _ (named k .inside),
-      (slot-fits (s .pre) _ (target k), hops-fit _ _ _ _ _ (k .before .judge .ensures) (k .if1 .left) (s .pre .dims)),
+      (
+        slot-fits (s .pre) _ (target k stays),
+        (
+          target-apart _ _ _ _ _ (v .ensures) (k .if1 .left) (s .pre .board) stays,
+          hops-fit _ _ _ _ _ (v .ensures) (k .if1 .left) (s .pre .board),
+        ),
+      ),
     )
 
-cast-t19 : tie.Need-cast-t19
-unfolding layoutOf
-cast-t19 c =
-    let k = c .before .before .before .before .before in
-    omega (arith, target k, slots-most (k .before .before .before .before .pre .dims))
+cast-t20 : tie.Need-cast-t20
+cast-t20 c =
+    let i = c .before .before .before .before in
+    let k = i .before in
+    omega (arith, target k (i .if2 .left), slots-most _ (k .before .before .before .before .before .pre .board))
 
 same-length-3 : tie.Need-same-length-3
 same-length-3 c = search needs
@@ -76,9 +86,9 @@ returns-3 : tie.Need-returns-3
 returns-3 c =
     let k = c .before .before .before .before in
     let v = k .before .before in
-    let a = v .before .before .before .args in
+    let a = v .before .before .before .before .args in
     ap (outcome _) (c .before .before .carry .ensures)
-    ∙ sym (moved-on (a .h) (a .t .now) (a .slot) (a .code) _ (v .judge .ensures) (k .before .if1 .left) (k .if2 .left))
+    ∙ sym (verdict-on (a .h) (a .t .now) (a .slot) (a .code) _ (v .judge .ensures) (k .before .if1 .left) (k .if2 .left))
 
 pub move-in-table-spec : {M : Type 1} → statement M
 move-in-table-spec =
@@ -92,6 +102,6 @@ move-in-table-spec =
     same-length-2
     returns-2
     carry-requires
-    cast-t19
+    cast-t20
     same-length-3
     returns-3)

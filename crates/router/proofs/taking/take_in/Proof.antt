@@ -3,12 +3,11 @@
 use mathlib.Core.Path.{_≡_, sym, ap, _∙_}
 use borrow.Author.Needs.{needs}
 use Rattle.table.specs.declared.trailer.Headed.the-variants.{Good}
-use Rattle.table.specs.Refusals.{trailer-not-good}
 use Rattle.table.specs.Trailer.{trailerOf}
+use Rattle.table.specs.Calls.{outcome}
 use Rattle.router.specs.declared.taking.Taken.{Taken}
-use Rattle.router.specs.Outcome.{outcome}
-use Rattle.router.specs.TakeIn.{refusal, takenInSlice}
-use Rattle.router.proofs.OnTable.{on-table-bad, start-in, lent-sized, ends-on-table}
+use Rattle.router.specs.TakeIn.{refusal, takenSlice}
+use Rattle.table.proofs.CallLaws.{on-table-bad, start-in, lent-sized, ends-on-table}
 use Rattle.router.proofs.taking.take_in.Statement.{statement}
 use Rattle.router.proofs.taking.take_in.Tie as tie
 
@@ -32,12 +31,12 @@ same-length : tie.Need-same-length
 same-length c = search needs
 
 returns : tie.Need-returns
-unfolding takenInSlice
+unfolding takenSlice
 returns c =
     let v = c .before .before .before in
     let s = v .before .before .before .args .s .now in
     ap (λ (r : Taken). outcome r s) (c .refused .ensures)
-    ∙ sym (on-table-bad s (refusal trailer-not-good) _ (sym (v .trailer .ensures) ∙ c .before .enum-told .given .1))
+    ∙ sym (on-table-bad s refusal _ (sym (v .trailer .ensures) ∙ c .before .enum-told .given .1))
 
 sub-start : tie.Need-sub-start
 sub-start c = start-in _ _ (good-here (c .before))
@@ -58,10 +57,10 @@ same-length-2 : tie.Need-same-length-2
 same-length-2 c = search needs
 
 returns-2 : tie.Need-returns-2
-unfolding takenInSlice
+unfolding takenSlice
 returns-2 c =
     let i = c .before .before .take-in-table in
-    ends-on-table _ _ (good-here (c .before .before .before .before .before)) (refusal trailer-not-good) _ _ _ (i .kept .0) (i .ensures)
+    ends-on-table _ _ (good-here (c .before .before .before .before .before)) refusal _ _ _ (i .kept .0) (i .ensures)
 
 pub take-in-spec : {M : Type 1} → statement M
 take-in-spec =

@@ -1,4 +1,4 @@
--- `router::taking::take_in_table` meets its contract: the two ways out are the definition's choice, and an accepting berth has its slot in the table.
+-- `router::taking::take_in_table` meets its contract: the two ways out are the definition's choice, and an accepting verdict has its slot in the table.
 -- Assumes nothing.
 use Prim.Native.Nat.{ℕ, _+_, _<_}
 use mathlib.Core.Path.{_≡_, sym, ap, _∙_}
@@ -8,43 +8,46 @@ use native.Mathlib.Omega.{arith}
 use borrow.Author.Needs.{needs}
 use Rattle.slots.specs.Slots.{withSlot}
 use Rattle.table.specs.declared.trailer.Head.{Head}
+use Rattle.table.specs.Board.{GoodBoard}
 use Rattle.table.specs.Layout.{layoutOf}
-use Rattle.table.specs.Trailer.{Sized, slotCount, withTaken}
-use Rattle.table.proofs.RefusalLaws.{accepted-by, refused-by}
-use Rattle.table.proofs.Sizes.{slots-most}
-use Rattle.router.specs.declared.taking.Berth.{Berth}
+use Rattle.table.specs.Trailer.{withTaken}
+use Rattle.table.specs.Calls.{outcome}
+use Rattle.table.proofs.BoardLaws.{slots-most, slot-fits}
 use Rattle.router.specs.declared.taking.Taken.{Taken}
-use Rattle.router.specs.Outcome.{outcome}
-use Rattle.router.specs.TakeIn.{refusal, berthOf, newRecord, takenIn}
-use Rattle.router.proofs.TakeLaws.{accepts, berth-within}
+use Rattle.router.specs.declared.verdict.Verdict.{Verdict}
+use Rattle.router.specs.TakeIn.{refusal, newRecord, tookIn, takenIn}
+use Rattle.router.specs.Verdicts.{takeVerdict}
+use Rattle.router.proofs.TakeLaws.{Welcome, takeDue, due-welcome, berth-within, taken-refused, taken-done, take-number, take-slot}
 use Rattle.router.proofs.taking.take_in_table.Statement.{statement}
 use Rattle.router.proofs.taking.take_in_table.Tie as tie
 
--- what the berth found says of the answer
-module _ (h : Head) (t : List ℕ) (source destination : ℕ) (b : Berth) (e : b ≡ berthOf h t source destination) where
-  number-of : b .number ≡ berthOf h t source destination .number
-  number-of = ap (λ (x : Berth). x .number) e
+-- what the verdict says of the answer
+module _ (h : Head) (t : List ℕ) (source destination : ℕ) (v : Verdict) (e : v ≡ takeVerdict h t source destination) where
+  number-of : v .number ≡ takeDue h t source destination
+  number-of = take-number h t source destination v e
 
-  ends-refused : (payload : List ℕ) (r : Taken) → b .number ≢ 0 → r ≡ refusal (b .number) → outcome r t ≡ takenIn h t source destination payload
-  unfolding takenIn
-  ends-refused payload r n q = rw (q, e) (sym (refused-by _ _ (λ z. n (number-of ∙ z))))
+  ends-refused : (payload : List ℕ) (r : Taken) → v .number ≢ 0 → r ≡ refusal (v .number) → outcome r t ≡ takenIn h t source destination payload
+  ends-refused payload r n q = ap (λ (a : Taken). outcome a t) q ∙ sym (taken-refused h t source destination payload (sym number-of) n)
 
-  module _ (z : b .number ≡ 0) where
-    more : h .taken ≢ 4294967295
-    more = accepts h t source destination (sym number-of ∙ z) .more
+  module _ (z : v .number ≡ 0) where
+    none : takeDue h t source destination ≡ 0
+    none = sym number-of ∙ z
 
-    slot-in : Sized h t → b .slot < slotCount (h .width) (h .height) (h .depth)
-    unfolding layoutOf
-    slot-in s = rw e (berth-within h t source destination (sym number-of ∙ z) s)
+    welcome : Welcome h t source destination
+    welcome = due-welcome h t source destination none
 
-    ends-taken : (payload v u w : List ℕ) → v ≡ newRecord source destination (h .taken) payload → u ≡ withSlot t (b .slot) v
+    slot-in : GoodBoard (h .board) → v .slot < layoutOf (h .board) .size
+    slot-in g = rw (take-slot h t source destination v e none) (berth-within h t source destination welcome g)
+
+    ends-taken : (payload p u w : List ℕ) → p ≡ newRecord source destination (h .taken) payload → u ≡ withSlot t (v .slot) p
         → w ≡ withTaken u (h .taken + 1)
-        → outcome record { number = 0; slot = b .slot; serial = h .taken } w ≡ takenIn h t source destination payload
-    unfolding takenIn
-    ends-taken payload v u w p q r = rw (r, q, p, e) (sym (accepted-by _ _ (sym number-of ∙ z)))
+        → outcome record { number = 0; slot = v .slot; serial = h .taken } w ≡ takenIn h t source destination payload
+    unfolding tookIn
+    ends-taken payload p u w f g k =
+        rw (k, g, f) (sym (taken-done h t source destination payload none ∙ ap (tookIn h t source destination payload) (sym (take-slot h t source destination v e none))))
 
-find-berth-requires : tie.Need-find-berth-requires
-find-berth-requires c κs = search needs
+judge-taking-requires : tie.Need-judge-taking-requires
+judge-taking-requires c κs = search needs
 
 refused-requires : tie.Need-refused-requires
 refused-requires c κs = search needs
@@ -53,10 +56,10 @@ same-length : tie.Need-same-length
 same-length c = search needs
 
 returns : tie.Need-returns
-returns c = ends-refused _ _ _ _ _ (c .before .before .find-berth .ensures) _ _ (c .before .if1 .taken) (c .refused .ensures)
+returns c = ends-refused _ _ _ _ _ (c .before .before .judge-taking .ensures) _ _ (c .before .if1 .taken) (c .refused .ensures)
 
 add-next : tie.Need-add-next
-add-next c = omega (arith, more _ _ _ _ _ (c .before .find-berth .ensures) (c .if1 .left))
+add-next c = omega (arith, welcome _ _ _ _ _ (c .before .judge-taking .ensures) (c .if1 .left) .more)
 
 new-record-requires : tie.Need-new-record-requires
 new-record-requires c κs = search needs
@@ -65,7 +68,7 @@ write-slot-requires : tie.Need-write-slot-requires
 write-slot-requires c κs =
     let i = c .before .before in
     let s = i .before .before .before .before in
-    omega (arith, slot-in _ _ _ _ _ (i .before .find-berth .ensures) (i .if1 .left) (s .pre), s .pre .full)
+    slot-fits (s .pre) _ (slot-in _ _ _ _ _ (i .before .judge-taking .ensures) (i .if1 .left) (s .pre .board))
 
 put-taken-requires : tie.Need-put-taken-requires
 put-taken-requires c κs = search needs
@@ -74,7 +77,7 @@ cast-t20 : tie.Need-cast-t20
 cast-t20 c =
     let i = c .before .before .before .before .before .before .before .before .before in
     let s = i .before .before .before .before in
-    omega (arith, slot-in _ _ _ _ _ (i .before .find-berth .ensures) (i .if1 .left) (s .pre), slots-most (s .pre .dims))
+    omega (arith, slot-in _ _ _ _ _ (i .before .judge-taking .ensures) (i .if1 .left) (s .pre .board), slots-most _ (s .pre .board))
 
 same-length-2 : tie.Need-same-length-2
 same-length-2 c = search needs
@@ -83,7 +86,7 @@ returns-2 : tie.Need-returns-2
 returns-2 c =
     let w = c .before .before .before .before .before .before in
     let i = w .before .before .before in
-    ends-taken _ _ _ _ _ (i .before .find-berth .ensures) (i .if1 .left) _ _ _ _
+    ends-taken _ _ _ _ _ (i .before .judge-taking .ensures) (i .if1 .left) _ _ _ _
     (w .before .before .new-record .ensures)
     (w .write-slot .ensures)
     (c .before .before .put-taken .ensures)
@@ -92,7 +95,7 @@ pub take-in-table-spec : {M : Type 1} → statement M
 take-in-table-spec =
     tie.close
     (tie.spec
-    find-berth-requires
+    judge-taking-requires
     refused-requires
     same-length
     returns

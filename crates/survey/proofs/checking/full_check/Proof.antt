@@ -6,7 +6,8 @@ use lib.ListN.{length}
 use borrow.Author.Needs.{needs}
 use Rattle.slots.proofs.Parts.{lent-rest}
 use Rattle.table.proofs.TrailerLaws.{trailer-good, trailer-sized}
-use Rattle.survey.specs.Check.{checkedIn, checkedBy, checkedSlice}
+use Rattle.survey.specs.Check.{unlessFault, readBy, checkedIn, checkedSlice}
+use Rattle.survey.specs.declared.checking.Checked.the-variants.{Passes, BadTrailer, FaultAt}
 use Rattle.survey.proofs.checking.full_check.Statement.{statement}
 use Rattle.survey.proofs.checking.full_check.Tie as tie
 
@@ -20,10 +21,10 @@ enum-told : tie.Need-enum-told
 enum-told c = search needs
 
 returns : tie.Need-returns
-unfolding checkedSlice
+unfolding checkedSlice checkedIn
 returns c =
     let a = c .before .before in
-    ap (checkedBy (a .before .before .args .s .now)) (sym (c .enum-told .given .1) ∙ a .trailer .ensures)
+    ap (readBy (a .before .before .args .s .now) BadTrailer (unlessFault FaultAt (λ h t. Passes))) (sym (c .enum-told .given .1) ∙ a .trailer .ensures)
 
 sub-start : tie.Need-sub-start
 sub-start c =
@@ -48,12 +49,12 @@ check-table-requires c κs =
     (rw (lent-rest s (length s - h .0 .0 .size)) (trailer-sized s e), trailer-good s e .counts)
 
 returns-2 : tie.Need-returns-2
-unfolding checkedSlice
+unfolding checkedSlice checkedIn
 returns-2 c =
     let h = c .before .before .before .h .given in
     let a = c .before .before .before .before .before in
     let s = a .before .before .args .s .now in
-    c .check-table .ensures ∙ ap (checkedIn (h .0 .0)) (lent-rest s (length s - h .0 .0 .size)) ∙ ap (checkedBy s) (sym (h .1) ∙ a .trailer .ensures)
+    c .check-table .ensures ∙ ap (checkedIn (h .0 .0)) (lent-rest s (length s - h .0 .0 .size)) ∙ ap (readBy s BadTrailer (unlessFault FaultAt (λ h t. Passes))) (sym (h .1) ∙ a .trailer .ensures)
 
 pub full-check-spec : {M : Type 1} → statement M
 full-check-spec =

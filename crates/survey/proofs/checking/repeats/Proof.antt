@@ -6,7 +6,7 @@ use native.Mathlib.Omega.{arith}
 use borrow.Author.Needs.{needs}
 use Rattle.network.proofs.Tests.{held, failed, not-held, not-failed, and-yes, and-no}
 use Rattle.survey.specs.Check.{hasSerial}
-use Rattle.survey.proofs.CheckLaws.{unmet, met-skip, met-up, met-raise}
+use Rattle.survey.proofs.MetLaws.{unmet, met-skip, met-up, met-raise}
 use Rattle.survey.proofs.checking.repeats.Statement.{statement}
 use Rattle.survey.proofs.checking.repeats.Tie as tie
 

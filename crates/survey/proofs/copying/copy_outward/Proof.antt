@@ -1,15 +1,26 @@
 -- `survey::copying::copy_outward` meets its contract: a good trailer's table is the slice's last bytes.
 -- Assumes nothing.
+use Prim.Native.Nat.{ℕ}
 use mathlib.Core.Path.{_≡_, sym, ap, _∙_}
+use mathlib.Core.List.{List}
 use Rattle.slots.proofs.Parts.{lent-rest}
+use Rattle.table.specs.declared.trailer.Headed.{Headed}
 use Rattle.table.specs.declared.trailer.Headed.the-variants.{Good}
+use Rattle.table.specs.Calls.{Outcome, outcome}
 use Rattle.table.specs.Trailer.{trailerOf}
 use Rattle.table.proofs.TrailerLaws.{trailer-good}
-use Rattle.router.proofs.OnTable.{start-in, lent-sized}
-use Rattle.survey.specs.Copy.{copiedBy, copiedSlice}
+use Rattle.table.proofs.CallLaws.{start-in, lent-sized}
+use Rattle.survey.specs.Check.{unlessFault, readBy}
+use Rattle.survey.specs.Copy.{copiedIn, copiedUnless, copiedSlice}
+use Rattle.survey.specs.declared.copying.Copied.{Copied}
+use Rattle.survey.specs.declared.copying.Copied.the-variants.{BadTrailer, FaultAt}
 use borrow.Author.Needs.{needs}
 use Rattle.survey.proofs.copying.copy_outward.Statement.{statement}
 use Rattle.survey.proofs.copying.copy_outward.Tie as tie
+
+-- what the trailer says decides
+abbrev by : List ℕ → List ℕ → Headed → Outcome Copied (List ℕ)
+by s out = readBy s (outcome BadTrailer out) (unlessFault (λ place. outcome (FaultAt place) out) (copiedIn out))
 
 -- past the `let .. else` the trailer is good
 told : (c : tie.After-h) → trailerOf (c .before .before .before .before .before .args .s .now) ≡ Good (c .h .given .0 .0)
@@ -25,11 +36,11 @@ enum-told : tie.Need-enum-told
 enum-told c = search needs
 
 returns : tie.Need-returns
-unfolding copiedSlice
+unfolding copiedSlice copiedUnless
 returns c =
     let v = c .before .before in
     let a = v .before .before .before .args in
-    sym (ap (copiedBy (a .s .now) (a .out .now)) (sym (v .trailer .ensures) ∙ c .enum-told .given .1))
+    sym (ap (by (a .s .now) (a .out .now)) (sym (v .trailer .ensures) ∙ c .enum-told .given .1))
 
 sub-start : tie.Need-sub-start
 sub-start c = start-in _ _ (told (c .before))
@@ -52,12 +63,12 @@ same-length : tie.Need-same-length
 same-length c = search needs
 
 returns-2 : tie.Need-returns-2
-unfolding copiedSlice
+unfolding copiedSlice copiedUnless
 returns-2 c =
     let k = c .before .before .before .before .before .before in
     let a = k .before .before .before .before .before .args in
     c .before .before .copy-table .ensures
-    ∙ rw (lent-rest (a .s .now) _) (sym (ap (copiedBy (a .s .now) (a .out .now)) (told k)))
+    ∙ rw (lent-rest (a .s .now) _) (sym (ap (by (a .s .now) (a .out .now)) (told k)))
 
 pub copy-outward-spec : {M : Type 1} → statement M
 copy-outward-spec =

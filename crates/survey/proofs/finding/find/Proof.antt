@@ -6,8 +6,10 @@ use Rattle.slots.proofs.Parts.{lent-rest}
 use Rattle.table.specs.declared.trailer.Headed.the-variants.{Good}
 use Rattle.table.specs.Trailer.{trailerOf}
 use Rattle.table.proofs.TrailerLaws.{trailer-good}
-use Rattle.router.proofs.OnTable.{start-in, lent-sized}
-use Rattle.survey.specs.Find.{foundIn, foundBy, foundSlice}
+use Rattle.table.proofs.CallLaws.{start-in, lent-sized}
+use Rattle.survey.specs.Check.{unlessFault, readBy}
+use Rattle.survey.specs.Find.{foundIn, foundUnless, foundSlice}
+use Rattle.survey.specs.declared.finding.Found.the-variants.{BadTrailer, FaultAt}
 use Rattle.survey.proofs.finding.find.Statement.{statement}
 use Rattle.survey.proofs.finding.find.Tie as tie
 
@@ -25,10 +27,10 @@ enum-told : tie.Need-enum-told
 enum-told c = search needs
 
 returns : tie.Need-returns
-unfolding foundSlice
+unfolding foundSlice foundUnless
 returns c =
     let a = c .before .before in
-    ap (foundBy (a .before .before .args .s .now)) (sym (c .enum-told .given .1) ∙ a .trailer .ensures)
+    ap (readBy (a .before .before .args .s .now) BadTrailer (unlessFault FaultAt foundIn)) (sym (c .enum-told .given .1) ∙ a .trailer .ensures)
 
 sub-start : tie.Need-sub-start
 sub-start c = start-in _ _ (told (c .before))
@@ -48,11 +50,11 @@ find-in-table-requires c κs =
     (lent-sized _ _ g, trailer-good _ g .counts)
 
 returns-2 : tie.Need-returns-2
-unfolding foundSlice
+unfolding foundSlice foundUnless
 returns-2 c =
     let k = c .before .before .before in
     let s = k .before .before .before .before .args .s .now in
-    c .find-in-table .ensures ∙ ap (foundIn (k .h .given .0 .0)) (lent-rest s _) ∙ ap (foundBy s) (sym (told k))
+    c .find-in-table .ensures ∙ ap (unlessFault FaultAt foundIn (k .h .given .0 .0)) (lent-rest s _) ∙ ap (readBy s BadTrailer (unlessFault FaultAt foundIn)) (sym (told k))
 
 pub find-spec : {M : Type 1} → statement M
 find-spec =

@@ -9,13 +9,13 @@ read-slot-requires : tie.Need-read-slot-requires
 read-slot-requires c κs = search needs
 
 hopped-requires : tie.Need-hopped-requires
-hopped-requires c κs = rw (c .read-slot .ensures) (c .before .before .before .pre .1 .1)
-
-write-slot-requires : tie.Need-write-slot-requires
-write-slot-requires c κs = search needs
+hopped-requires c κs = rw (c .read-slot .ensures) (c .before .before .before .pre .1 .1 .1)
 
 leave-requires : tie.Need-leave-requires
 leave-requires c κs = search needs
+
+write-slot-requires : tie.Need-write-slot-requires
+write-slot-requires c κs = search needs
 
 same-length : tie.Need-same-length
 same-length c = search needs
@@ -30,7 +30,7 @@ carry-spec =
     (tie.spec
     read-slot-requires
     hopped-requires
-    write-slot-requires
     leave-requires
+    write-slot-requires
     same-length
     returns)

@@ -1,7 +1,7 @@
 -- `table::carriage::leave` meets its contract.
 -- Assumes nothing.
 use borrow.Author.Needs.{needs}
-use Rattle.table.specs.Carriage.{left}
+use Rattle.table.specs.Carriage.{vacated}
 use Rattle.table.proofs.carriage.leave.Statement.{statement}
 use Rattle.table.proofs.carriage.leave.Tie as tie
 
@@ -12,7 +12,7 @@ same-length : tie.Need-same-length
 same-length c = search needs
 
 returns : tie.Need-returns
-unfolding left
+unfolding vacated
 returns c = cc
 
 pub leave-spec : {M : Type 1} → statement M

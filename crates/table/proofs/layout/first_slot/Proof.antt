@@ -4,30 +4,31 @@ use Prim.Native.Nat.{ℕ, _*_, _/_, _≤_, _<_}
 use native.Mathlib.Omega.{arith}
 use native.Mathlib.Nat.{mul-le-mul}
 use borrow.Author.Needs.{needs}
-use Rattle.table.specs.declared.trailer.Head.{Head}
-use Rattle.table.specs.Layout.{GoodHead, numberOf, perNode, layoutOf}
+use Rattle.table.specs.declared.board.Board.{Board}
+use Rattle.table.specs.Board.{GoodBoard}
+use Rattle.table.specs.Layout.{numberOf, perNode, layoutOf}
 use Rattle.table.proofs.Places.{room-pos, in-node}
 use Rattle.table.proofs.layout.first_slot.Statement.{statement}
 use Rattle.table.proofs.layout.first_slot.Tie as tie
 
-module _ (h : Head) (g : GoodHead h) (n : ℕ) (b : n < 256) where
-  row-small : n / 16 * h .width ≤ 240
+module _ (b : Board) (g : GoodBoard b) (n : ℕ) (l : n < 256) where
+  row-small : n / 16 * b .width ≤ 240
   row-small = let y : n / 16 ≤ 15 = omega arith in mul-le-mul y (g .width-high)
 
-  node-small : numberOf (h .width) n * perNode (h .depth) ≤ 3825
+  node-small : numberOf (b .width) n * perNode (b .depth) ≤ 3825
   node-small =
-      let m : numberOf (h .width) n ≤ 255 = omega (arith, row-small) in
-      let p : perNode (h .depth) ≤ 15 = omega arith in
+      let m : numberOf (b .width) n ≤ 255 = omega (arith, row-small) in
+      let p : perNode (b .depth) ≤ 15 = omega arith in
       mul-le-mul m p
 
 wide-requires : tie.Need-wide-requires
 wide-requires c κs = search needs
 
 mul-result : tie.Need-mul-result
-mul-result c = record { fits = omega (arith, row-small (c .before .before .args .h) (c .before .before .pre) (c .before .wide .result) (omega arith)) }
+mul-result c = record { fits = omega (arith, row-small (c .before .before .args .b) (c .before .before .pre) (c .before .wide .result) (omega arith)) }
 
 add-result : tie.Need-add-result
-add-result c = record { fits = omega (arith, row-small (c .before .before .args .h) (c .before .before .pre) (c .before .wide .result) (omega arith)) }
+add-result c = record { fits = omega (arith, row-small (c .before .before .args .b) (c .before .before .pre) (c .before .wide .result) (omega arith)) }
 
 mul-result-2 : tie.Need-mul-result-2
 mul-result-2 c = search needs
@@ -36,7 +37,7 @@ add-result-2 : tie.Need-add-result-2
 add-result-2 c = search needs
 
 mul-result-3 : tie.Need-mul-result-3
-mul-result-3 c = record { fits = omega (arith, node-small (c .before .before .args .h) (c .before .before .pre) (c .before .wide .result) (omega arith)) }
+mul-result-3 c = record { fits = omega (arith, node-small (c .before .before .args .b) (c .before .before .pre) (c .before .wide .result) (omega arith)) }
 
 offset-of-requires : tie.Need-offset-of-requires
 offset-of-requires c κs = search needs
@@ -44,10 +45,10 @@ offset-of-requires c κs = search needs
 add-result-3 : tie.Need-add-result-3
 add-result-3 c =
     let s = c .before .before .before in
-    let depth = s .args .h .depth in
+    let depth = s .args .b .depth in
     let kind = s .args .p .kind in
     let first = in-node depth kind 0 (room-pos depth (s .pre .depth-low) kind) in
-    record { fits = omega (arith, node-small (s .args .h) (s .pre) (c .before .before .wide .result) (omega arith), c .offset-of .ensures) }
+    record { fits = omega (arith, node-small (s .args .b) (s .pre) (c .before .before .wide .result) (omega arith), c .offset-of .ensures) }
 
 returns : tie.Need-returns
 unfolding layoutOf

@@ -2,7 +2,7 @@
 -- Assumes nothing.
 use borrow.Author.Needs.{needs}
 use Rattle.table.specs.Layout.{layoutOf}
-use Rattle.table.proofs.Places.{place-byte}
+use Rattle.table.proofs.BoardLaws.{place-byte}
 use Rattle.table.proofs.layout.place_of.Statement.{statement}
 use Rattle.table.proofs.layout.place_of.Tie as tie
 
@@ -17,7 +17,7 @@ div-node-of c = search needs
 
 node-of-requires : tie.Need-node-of-requires
 unfolding layoutOf
-node-of-requires c κs = (c .pre .0 .width-low, (c .pre .0 .width-high, place-byte (c .args .h) (c .pre .0) (c .args .slot) (c .pre .1)))
+node-of-requires c κs = (c .pre .0 .width-low, (c .pre .0 .width-high, place-byte (c .args .b) (c .pre .0) (c .args .slot) (c .pre .1)))
 
 rem-kind-of : tie.Need-rem-kind-of
 rem-kind-of c = search needs

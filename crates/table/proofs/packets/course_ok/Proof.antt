@@ -5,8 +5,8 @@ use mathlib.Core.Path.{sym, _∙_}
 use native.Mathlib.Omega.{arith}
 use borrow.Author.Tests.{eq-eqb, ne-eqb}
 use Rattle.network.proofs.Tests.{and-yes, and-no}
-use Rattle.mesh.proofs.Metric.{distance-most}
 use Rattle.table.specs.Packets.{courseOk}
+use Rattle.table.proofs.BoardLaws.{distance-byte}
 use Rattle.table.proofs.packets.course_ok.Statement.{statement}
 use Rattle.table.proofs.packets.course_ok.Tie as tie
 
@@ -26,7 +26,7 @@ distance-requires-2 c κs = search needs
 add-result : tie.Need-add-result
 add-result c =
     let a = c .before .before .before .before .args in
-    let d = distance-most (a .here) (a .f .destination) (omega arith) (omega arith) in
+    let d = distance-byte (a .b) (a .here) (a .f .destination) (omega arith) (omega arith) in
     record { fits = omega (arith, c .distance2 .ensures) }
 
 distance-requires-3 : tie.Need-distance-requires-3

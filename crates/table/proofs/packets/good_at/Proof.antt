@@ -3,7 +3,8 @@
 use native.Mathlib.Omega.{arith}
 use borrow.Author.Needs.{needs}
 use Rattle.slots.specs.Slots.{slotAt}
-use Rattle.table.specs.Layout.{netOf, layoutOf}
+use Rattle.table.specs.Board.{netOf}
+use Rattle.table.specs.Layout.{layoutOf}
 use Rattle.table.specs.Packets.{goodAt}
 use Rattle.table.proofs.PacketLaws.{good-by}
 use Rattle.table.proofs.packets.good_at.Statement.{statement}
@@ -13,8 +14,7 @@ place-of-requires : tie.Need-place-of-requires
 place-of-requires c κs = search needs
 
 read-fields-requires : tie.Need-read-fields-requires
-unfolding layoutOf
-read-fields-requires c κs = omega (arith, c .before .before .pre .0 .full, c .before .before .pre .1)
+read-fields-requires c κs = omega (arith, c .before .before .before .pre .0 .full, c .before .before .before .pre .1)
 
 good-in-requires : tie.Need-good-in-requires
 good-in-requires c κs = search needs
@@ -22,9 +22,9 @@ good-in-requires c κs = search needs
 returns : tie.Need-returns
 unfolding goodAt
 returns c =
-    let a = c .before .before .before .before .args in
+    let a = c .before .before .before .before .before .args in
     rw (c .good-in .ensures, c .before .before .place-of .ensures, c .before .read-fields .ensures)
-    (good-by (slotAt (a .t .now) (a .k)) (netOf (a .h)) (a .h .taken) (a .h .delivered) (layoutOf (a .h) .placeOf (a .k)))
+    (good-by (slotAt (a .t .now) (a .k)) (netOf (a .h .board)) (a .h .taken) (a .h .delivered) (layoutOf (a .h .board) .placeOf (a .k)))
 
 pub good-at-spec : {M : Type 1} → statement M
 good-at-spec = tie.close (tie.spec place-of-requires read-fields-requires good-in-requires returns)

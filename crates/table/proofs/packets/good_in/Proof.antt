@@ -8,8 +8,9 @@ use lib.Dec.{eqb}
 use borrow.Author.Tests.{eq-eqb, ne-eqb, lt-ltb, le-ltb}
 use Rattle.network.proofs.Tests.{and-l, and-r, and-both, both-true, and-yes, not-held, not-failed}
 use Rattle.network.specs.Packet.{good}
-use Rattle.mesh.specs.Grid.{distanceOf}
+use Rattle.table.specs.declared.board.Board.{Board}
 use Rattle.table.specs.declared.packets.Fields.{Fields}
+use Rattle.table.specs.Board.{netOf}
 use Rattle.table.specs.Packets.{courseOk}
 use Rattle.table.proofs.packets.good_in.Statement.{statement}
 use Rattle.table.proofs.packets.good_in.Tie as tie
@@ -19,29 +20,29 @@ fails : {g b : Bool} → b ≡ false → (g ≡ true → b ≡ true) → false �
 fails {g = true} e f = sym e ∙ f refl
 fails {g = false} e f = refl
 
-course-tests : (here : ℕ) (f : Fields) → courseOk here f ≡ true
-    → (eqb (f .hops) (distanceOf (f .source) here) ≡ true)
-    × (eqb (f .hops + distanceOf here (f .destination)) (distanceOf (f .source) (f .destination)) ≡ true)
+course-tests : (b : Board) (here : ℕ) (f : Fields) → courseOk b here f ≡ true
+    → (eqb (f .hops) (netOf b .distance (f .source) here) ≡ true)
+    × (eqb (f .hops + netOf b .distance here (f .destination)) (netOf b .distance (f .source) (f .destination)) ≡ true)
 unfolding courseOk
-course-tests here f e = both-true _ _ e
+course-tests b here f e = both-true _ _ e
 
 returns : tie.Need-returns
 unfolding good
 returns c = fails (ne-eqb _ _ (c .if1 .taken)) (λ g. search and-l)
 
-on-board-requires : tie.Need-on-board-requires
-on-board-requires c κs = search needs
+is-node-requires : tie.Need-is-node-requires
+is-node-requires c κs = search needs
 
 returns-2 : tie.Need-returns-2
 unfolding good
-returns-2 c = fails (not-held (c .before .on-board .ensures) (c .if2 .taken)) (λ g. search (and-l, and-r))
+returns-2 c = fails (not-held (c .before .is-node .ensures) (c .if2 .taken)) (λ g. search (and-l, and-r))
 
-on-board-requires-2 : tie.Need-on-board-requires-2
-on-board-requires-2 c κs = search needs
+is-node-requires-2 : tie.Need-is-node-requires-2
+is-node-requires-2 c κs = search needs
 
 returns-3 : tie.Need-returns-3
 unfolding good
-returns-3 c = fails (not-held (c .before .on-board2 .ensures) (c .if3 .taken)) (λ g. search (and-l, and-r))
+returns-3 c = fails (not-held (c .before .is-node2 .ensures) (c .if3 .taken)) (λ g. search (and-l, and-r))
 
 returns-4 : tie.Need-returns-4
 unfolding good
@@ -70,13 +71,13 @@ returns-7 c =
     let p3 = p4 .before .before .before in
     let p2 = p3 .before .before in
     let p1 = p2 .before .before in
-    let a = p1 .before .before .args in
-    let course = course-tests (a .here .node) (a .f) (not-failed (p6 .before .course-ok .ensures) (p6 .if6 .left)) in
+    let a = p1 .before .before .before .args in
+    let course = course-tests (a .h .board) (a .here .node) (a .f) (not-failed (p6 .before .course-ok .ensures) (p6 .if6 .left)) in
     c .fits-kind .ensures
     ∙ sym
     (and-yes (eq-eqb _ _ (p1 .if1 .left))
-    ∙ and-yes (not-failed (p2 .before .on-board .ensures) (p2 .if2 .left))
-    ∙ and-yes (not-failed (p3 .before .on-board2 .ensures) (p3 .if3 .left))
+    ∙ and-yes (not-failed (p2 .before .is-node .ensures) (p2 .if2 .left))
+    ∙ and-yes (not-failed (p3 .before .is-node2 .ensures) (p3 .if3 .left))
     ∙ and-yes (lt-ltb _ _ (p4 .if4 .left))
     ∙ and-yes (lt-ltb _ _ (p5 .if5 .left))
     ∙ and-yes (course .0)
@@ -87,9 +88,9 @@ good-in-spec =
     tie.close
     (tie.spec
     returns
-    on-board-requires
+    is-node-requires
     returns-2
-    on-board-requires-2
+    is-node-requires-2
     returns-3
     returns-4
     returns-5

@@ -2,9 +2,8 @@
 -- Assumes nothing.
 use borrow.Author.Needs.{needs}
 use native.Mathlib.Omega.{arith}
-use Rattle.table.specs.Layout.{layoutOf}
 use Rattle.table.specs.Queues.{roomAt}
-use Rattle.table.proofs.Places.{queue-within}
+use Rattle.table.proofs.BoardLaws.{queue-within}
 use Rattle.table.proofs.queues.room_at.Statement.{statement}
 use Rattle.table.proofs.queues.room_at.Tie as tie
 
@@ -14,11 +13,10 @@ first-slot-requires c κs = search needs
 room-of-requires : tie.Need-room-of-requires
 room-of-requires c κs = search needs
 
-lowest-requires : tie.Need-lowest-requires
-unfolding layoutOf
-lowest-requires c κs =
+lowest-empty-requires : tie.Need-lowest-empty-requires
+lowest-empty-requires c κs =
     let s = c .before .before .before in
-    let q = queue-within (s .args .h) (s .pre .0 .dims) (s .args .p) (s .pre .1) in
+    let q = queue-within (s .args .b) (s .pre .0 .board) (s .args .p) (s .pre .1) in
     rw (c .before .first-slot .ensures, c .room-of .ensures) (omega (arith, s .pre .0 .full))
 
 returns : tie.Need-returns
@@ -26,4 +24,4 @@ unfolding roomAt
 returns c = cc
 
 pub room-at-spec : {M : Type 1} → statement M
-room-at-spec = tie.close (tie.spec first-slot-requires room-of-requires lowest-requires returns)
+room-at-spec = tie.close (tie.spec first-slot-requires room-of-requires lowest-empty-requires returns)

@@ -8,8 +8,8 @@ use Rattle.table.proofs.trailer.clear_table.Tie as tie
 fresh-trailer-requires : tie.Need-fresh-trailer-requires
 fresh-trailer-requires c κs = search needs
 
-slot-count-requires : tie.Need-slot-count-requires
-slot-count-requires c κs = search needs
+slots-of-requires : tie.Need-slots-of-requires
+slots-of-requires c κs = search needs
 
 zero-all-requires : tie.Need-zero-all-requires
 zero-all-requires c κs = search needs
@@ -23,14 +23,14 @@ same-length c = search needs
 returns : tie.Need-returns
 returns c =
     let a = c .before .before .before .before .before .before .before .before .before .before .before .args in
-    cc (fresh-made (a .width) (a .height) (a .depth))
+    cc (fresh-made (a .b))
 
 pub clear-table-spec : {M : Type 1} → statement M
 clear-table-spec =
     tie.close
     (tie.spec
     fresh-trailer-requires
-    slot-count-requires
+    slots-of-requires
     zero-all-requires
     write-slot-requires
     same-length

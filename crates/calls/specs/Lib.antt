@@ -1,0 +1,3 @@
+pub mod Slices
+pub mod Router
+pub mod Calls

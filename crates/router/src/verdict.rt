@@ -1,0 +1,58 @@
+// What a call that changes a table would do, judged before anything is written.
+use network::Lowest;
+use table::trailer::Head;
+ghost use mathlib.Core.Path.{_≡_};
+ghost use Rattle.table.specs.Trailer.{Sized};
+ghost use Rattle.router.specs.Verdicts.{refusedBy, into, slotDue};
+
+// The number of the first refusal that is due, or 0 and what is done: the packet leaves, or goes to a slot with more hops.
+pub struct Verdict {
+    pub number: u32,
+    pub leaves: bool,
+    pub slot: usize,
+    pub hops: u8,
+}
+
+pub fn refuse(number: u32) -> Verdict
+    ensures { λ r. ⌜ r ≡ refusedBy number ⌝ }
+{
+    Verdict {
+        number,
+        leaves: false,
+        slot: 0,
+        hops: 0,
+    }
+}
+
+// Into the room found, or refusal 6.
+pub fn go_into(room: Lowest, hops: u8) -> Verdict
+    ensures { λ r. ⌜ r ≡ into room hops ⌝ }
+{
+    let Lowest::At(slot) = room else {
+        return refuse(table::refusals::NO_ROOM);
+    };
+    Verdict {
+        number: 0,
+        leaves: false,
+        slot,
+        hops,
+    }
+}
+
+// Refusals 2, 3 and 4 of a named slot, or 0.
+pub fn slot_due(t: &[u8], h: Head, slot: usize) -> u32
+    requires { ⌜ Sized (h .board) (now t) ⌝ }
+    ensures { λ r. ⌜ r ≡ slotDue h (now (t .entry)) slot ⌝ }
+{
+    let b = h.board;
+    if table::layout::slots_of(b) <= slot {
+        return table::refusals::OUT_OF_RANGE;
+    }
+    if slots::slot_empty(t, slot) {
+        return table::refusals::EMPTY;
+    }
+    if !table::packets::good_at(t, h, slot) {
+        return table::refusals::SPOILED;
+    }
+    0
+}

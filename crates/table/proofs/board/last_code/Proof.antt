@@ -1,0 +1,13 @@
+-- `table::board::last_code` meets its contract: the board's network is the grid.
+-- Assumes nothing.
+use mathlib.Core.Path.{refl}
+use Rattle.table.specs.Board.{netOf}
+use Rattle.table.proofs.board.last_code.Statement.{statement}
+use Rattle.table.proofs.board.last_code.Tie as tie
+
+returns : tie.Need-returns
+unfolding netOf
+returns c = refl
+
+pub last-code-spec : {M : Type 1} → statement M
+last-code-spec = tie.close (tie.spec returns)
