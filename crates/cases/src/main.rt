@@ -1,8 +1,9 @@
 // Document 01's cases that are run and not proved, one call of every refusal, and a slot that the next packet takes at once.
 
-use survey::checking::Checked;
-use survey::copying::Copied;
-use survey::finding::Found;
+use survey::checking;
+use survey::copying;
+use survey::copying::CopyAnswer;
+use survey::finding;
 
 fn say(text: &[u8]) {
     io::write_all(libc::STDOUT_FILENO, text);
@@ -72,38 +73,35 @@ fn answer(label: &[u8], n: u32, place: u32) {
 }
 
 fn full_check(s: &[u8]) {
-    let c = survey::full_check(s);
-    match c {
-        Checked::Passes => say(b"check passes\n"),
-        Checked::BadTrailer => answer(b"check ", table::refusals::TRAILER, 0),
-        Checked::FaultAt(place) => answer(b"check ", table::refusals::FAULT, place),
+    let a = checking::answer_of(survey::full_check(s));
+    if a.number == 0 {
+        return say(b"check passes\n");
     }
+    answer(b"check ", a.number, a.place);
 }
 
 fn find(s: &[u8]) {
-    let f = survey::find(s);
-    match f {
-        Found::Move(slot, code) => {
-            say(b"find 0 slot ");
-            number(slot);
-            say(b" code ");
-            number(code);
-            say(b"\n");
-        }
-        Found::BadTrailer => answer(b"find ", table::refusals::TRAILER, 0),
-        Found::FaultAt(place) => answer(b"find ", table::refusals::FAULT, place),
-        Found::NothingHeld => answer(b"find ", table::refusals::NOTHING_HELD, 0),
+    let a = finding::answer_of(survey::find(s));
+    if a.number != 0 {
+        return answer(b"find ", a.number, a.slot);
     }
+    say(b"find 0 slot ");
+    number(a.slot);
+    say(b" code ");
+    number(a.code);
+    say(b"\n");
+}
+
+fn copied(a: CopyAnswer) {
+    if a.number == 0 {
+        return say(b"copy done\n");
+    }
+    answer(b"copy ", a.number, a.place);
 }
 
 fn copy_outward(s: &[u8], out: &mut [u8]) {
     let c = survey::copy_outward(s, out);
-    match c {
-        Copied::Done => say(b"copy done\n"),
-        Copied::BadTrailer => answer(b"copy ", table::refusals::TRAILER, 0),
-        Copied::FaultAt(place) => answer(b"copy ", table::refusals::FAULT, place),
-        Copied::WrongLength => answer(b"copy ", table::refusals::BUFFER, 0),
-    }
+    copied(copying::answer_of(c));
     show(out);
 }
 

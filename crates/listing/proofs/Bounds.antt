@@ -31,22 +31,10 @@ use Rattle.survey.specs.declared.checking.Checked.the-variants.{Passes, BadTrai
 use Rattle.survey.specs.Check.{heldAt, heldBelow, faultIn, faultOr, unlessFault, readBy, onPassing, checkedSlice}
 use Rattle.survey.proofs.CheckLaws.{fault-none, fault-most}
 use Rattle.text.proofs.DecLaws.{length-dec, length-u32}
-use Rattle.listing.specs.Lines.{
-  gridText,
-  countsText,
-  headLine,
-  letter,
-  nodeText,
-  placeText,
-  packetText,
-  slotLine,
-  rowAt,
-  rowsBelow,
-  lastLine,
-  tableLines,
-}
+use Rattle.listing.specs.Line.{gridText, countsText, headLine, letter, nodeText, placeText, packetText, slotLine, lastLine}
+use Rattle.listing.specs.Lines.{topOf, rowIn, rowAt, rowsIn, rowsText, tableText}
 use Rattle.listing.specs.Output.{most, refusalLine, faultLine, verdictLine, unlessLong, listing, verdict, room, lineRoom}
-use Rattle.listing.proofs.RowLaws.{row-empty, row-held, rows-none, rows-longer}
+use Rattle.listing.proofs.RowLaws.{row-empty, row-held, no-rows, rows-longer, table-is}
 
 -- ---- the lines of a table that passes
 
@@ -61,7 +49,7 @@ letter-one Waiting = refl
 letter-one A = refl
 letter-one B = refl
 
-head-short : (h : Head) → GoodBoard (h .board) → h .taken < 2 ^ 32 → h .delivered ≤ h .taken → length (headLine h) ≤ 57
+head-short : (h : Head) → GoodBoard (h .board) → h .taken < 2 ^ 32 → h .delivered ≤ h .taken → length (headLine (topOf h)) ≤ 57
 unfolding headLine gridText countsText
 head-short h g l d =
     simp length-append
@@ -91,7 +79,7 @@ module _ (h : Head) (g : GoodBoard (h .board)) (t : List ℕ) (few : h .taken < 
   size = layoutOf (h .board) .size
 
   -- a good packet's line
-  line-short : (k : ℕ) → k < size → goodAt h t k ≡ true → length (slotLine (h .board) k (itemIn (h .board) t k)) ≤ 59
+  line-short : (k : ℕ) → k < size → goodAt h t k ≡ true → length (slotLine (h .board) (rowIn (h .board) t k)) ≤ 59
   unfolding slotLine placeText packetText
   line-short k l e =
       let b = h .board in
@@ -113,29 +101,29 @@ module _ (h : Head) (g : GoodBoard (h .board)) (t : List ℕ) (few : h .taken < 
     sound : (k : ℕ) → k < size → heldAt t k ≡ true → goodAt h t k ≡ true
     sound k l e = not-false _ (sym (and-yes e) ∙ fault-none h t passes .sound .lacks k (omega arith) (omega arith))
 
-    row-short : (k : ℕ) → k < size → length (rowAt (h .board) t k) ≤ 59
+    row-short : (k : ℕ) → k < size → length (rowsText (h .board) (rowAt (h .board) t k)) ≤ 59
     row-short k l = go (zeros (slotAt t k)) refl
       where
-        go : (b : Bool) → zeros (slotAt t k) ≡ b → length (rowAt (h .board) t k) ≤ 59
+        go : (b : Bool) → zeros (slotAt t k) ≡ b → length (rowsText (h .board) (rowAt (h .board) t k)) ≤ 59
         go true e = rw (row-empty (h .board) t k e) (omega arith)
         go false e = rw (row-held (h .board) t k e) (line-short k l (sound k l (ap not e)))
 
-    rows-short : (n : ℕ) → n ≤ size → length (rowsBelow (h .board) t n) ≤ 59 * n
-    rows-short zero l = rw (rows-none (h .board) t) (omega arith)
+    rows-short : (n : ℕ) → n ≤ size → length (rowsText (h .board) (rowsIn (h .board) t n)) ≤ 59 * n
+    rows-short zero l = rw (no-rows (h .board) t) (omega arith)
     rows-short (suc n) l = omega (arith, rows-longer (h .board) t n, rows-short n (omega arith), row-short n l)
 
-    pub table-short : h .delivered ≤ h .taken → length (tableLines h t) ≤ room
-    unfolding tableLines
+    pub table-short : h .delivered ≤ h .taken → length (tableText h t) ≤ room
     table-short d =
         let most = slots-most (h .board) g in
-        simp length-append
+        rw (table-is h t)
+        (simp length-append
         (omega (
           arith,
           most,
           head-short h g few d,
           rows-short size (omega arith),
           last-short (heldBelow t size) (omega (arith, held-most t size, most)),
-        ))
+        )))
 
 -- ---- refusals
 
@@ -184,13 +172,13 @@ module _ (s : List ℕ) where
 
     pub listing-short : length (listing s) ≤ room
     unfolding listing
-    listing-short = unless-short room s (onPassing s (refusalLine trailer-not-good) faultLine tableLines) (omega arith) (by (trailerOf s) refl)
+    listing-short = unless-short room s (onPassing s (refusalLine trailer-not-good) faultLine tableText) (omega arith) (by (trailerOf s) refl)
       where
         told : (h : Head) → trailerOf s ≡ Good h → (x : Lowest) → faultIn h (table h) ≡ x
-            → length (faultOr faultLine (tableLines h (table h)) x) ≤ room
+            → length (faultOr faultLine (tableText h (table h)) x) ≤ room
         told h e (At place) f = omega (arith, named-short h e place f)
         told h e Nowhere f = let g = trailer-good s e in table-short h (g .ranges) (table h) (taken-few h g) f (g .counts)
 
-        by : (x : Headed) → trailerOf s ≡ x → length (readBy s (refusalLine trailer-not-good) (unlessFault faultLine tableLines) x) ≤ room
+        by : (x : Headed) → trailerOf s ≡ x → length (readBy s (refusalLine trailer-not-good) (unlessFault faultLine tableText) x) ≤ room
         by Bad e = omega (arith, refusal-short trailer-not-good (omega arith))
         by (Good h) e = told h e (faultIn h (table h)) refl

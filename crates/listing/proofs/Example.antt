@@ -21,19 +21,8 @@ use Rattle.table.proofs.BoardLaws.{net-laws}
 use Rattle.survey.specs.Check.{firstSpoiled, firstRepeat, miscount, faultIn, checkedSlice}
 use Rattle.text.specs.Dec.{dec, decFrom}
 use Rattle.text.specs.Text.{text}
-use Rattle.listing.specs.Lines.{
-  gridText,
-  countsText,
-  headLine,
-  nodeText,
-  placeText,
-  packetText,
-  slotLine,
-  rowAt,
-  rowsBelow,
-  lastLine,
-  tableLines,
-}
+use Rattle.listing.specs.Line.{gridText, countsText, headLine, nodeText, placeText, packetText, slotLine, lastLine, lineText, joined}
+use Rattle.listing.specs.Lines.{rowAt, rowsIn, onto, wholeLines, linesOf, tableText}
 use Rattle.listing.specs.Output.{refusalLine, faultLine, listing, verdict}
 use Rattle.listing.specs.Outward.{copyAlone, wordsAlone, sentOf}
 
@@ -76,12 +65,17 @@ unfolding listing
     boardOk
     layoutOf
     slotAt
-    tableLines
+    tableText
+    linesOf
+    wholeLines
+    onto
+    rowsIn
+    rowAt
+    joined
+    lineText
     headLine
     gridText
     countsText
-    rowsBelow
-    rowAt
     slotLine
     placeText
     packetText

@@ -1,3 +1,4 @@
+pub mod LineLaws
 pub mod RowLaws
 pub mod Bounds
 pub mod OutputLaws

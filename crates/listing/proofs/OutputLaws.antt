@@ -18,7 +18,7 @@ use Rattle.survey.specs.Check.{unlessFault, readBy, onPassing, checkedSlice}
 use Rattle.text.specs.Put.{Wrote}
 use Rattle.text.proofs.PutLaws.{wrote-long}
 use Rattle.listing.specs.declared.answering.Listed.{Listed}
-use Rattle.listing.specs.Lines.{tableLines}
+use Rattle.listing.specs.Lines.{tableText}
 use Rattle.listing.specs.Output.{most, refusalLine, faultLine, verdictLine, listing, verdict, listed, into}
 
 module _ (s : List ℕ) where
@@ -36,22 +36,22 @@ module _ (s : List ℕ) where
     unfolding verdict
     verdict-read = cond-false _ _ (le-ltb most (length s) l)
 
-    pub listing-read : listing s ≡ onPassing s (refusalLine trailer-not-good) faultLine tableLines
+    pub listing-read : listing s ≡ onPassing s (refusalLine trailer-not-good) faultLine tableText
     unfolding listing
     listing-read = cond-false _ _ (le-ltb most (length s) l)
 
     pub listing-bad : trailerOf s ≡ Bad → listing s ≡ refusalLine trailer-not-good
-    listing-bad e = listing-read ∙ ap (readBy s (refusalLine trailer-not-good) (unlessFault faultLine tableLines)) e
+    listing-bad e = listing-read ∙ ap (readBy s (refusalLine trailer-not-good) (unlessFault faultLine tableText)) e
 
     module _ (h : Head) (e : trailerOf s ≡ Good h) where
       abbrev start : ℕ
       start = length s - h .size
 
-      listing-good : listing s ≡ unlessFault faultLine tableLines h (drop start s)
-      listing-good = listing-read ∙ ap (readBy s (refusalLine trailer-not-good) (unlessFault faultLine tableLines)) e
+      listing-good : listing s ≡ unlessFault faultLine tableText h (drop start s)
+      listing-good = listing-read ∙ ap (readBy s (refusalLine trailer-not-good) (unlessFault faultLine tableText)) e
 
       -- the same of `&s[start..]`
-      pub listing-lent : listing s ≡ unlessFault faultLine tableLines h (take (length s - start) (drop start s))
+      pub listing-lent : listing s ≡ unlessFault faultLine tableText h (take (length s - start) (drop start s))
       listing-lent = rw (lent-rest s start) listing-good
 
 -- what both calls ensure

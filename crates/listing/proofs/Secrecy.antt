@@ -9,46 +9,36 @@ use native.Mathlib.Omega.{arith}
 use lib.ListN.{length}
 use Rattle.table.specs.declared.board.Board.{Board}
 use Rattle.table.specs.declared.trailer.Head.{Head}
-use Rattle.table.specs.declared.packets.Fields.{Fields}
 use Rattle.table.specs.Refusals.{trailer-not-good}
 use Rattle.table.specs.Layout.{layoutOf}
-use Rattle.table.specs.Packets.{itemIn, itemBy}
 use Rattle.survey.specs.Secrecy.{Alike}
-use Rattle.survey.proofs.Sight.{SeenSame, fields-alike, count-alike}
+use Rattle.survey.proofs.Sight.{SeenSame, fields-alike}
 use Rattle.survey.proofs.Secrecy.{seen, same-copy, passing-secret, check-secret}
-use Rattle.listing.specs.Lines.{slotLine, rowAt, rowsBelow, tableLines}
+use Rattle.listing.specs.Line.{Row, joined}
+use Rattle.listing.specs.Lines.{topOf, rowOf, rowIn, rowAt, rowsIn, wholeLines, linesOf, tableText}
 use Rattle.listing.specs.Output.{room, lineRoom, refusalLine, faultLine, verdictLine, into, listing, verdict, listedInto, verdictInto}
 use Rattle.listing.specs.Outward.{copyAlone, wordsAlone, withheld, copyOf, sentOf, sentInto}
-use Rattle.listing.proofs.RowLaws.{line-by}
 use Rattle.listing.proofs.OutputLaws.{verdict-read, listing-read}
 use Rattle.listing.proofs.OutwardLaws.{sentBy, sent-read}
 
+-- a line is told by what the check sees of its slot
 module _ (b : Board) {t w : List ℕ} (a : SeenSame (layoutOf b .size) t w) where
-  line-same : (k : ℕ) → k < layoutOf b .size → slotLine b k (itemIn b t k) ≡ slotLine b k (itemIn b w k)
-  line-same k l =
-      sym (line-by b t k)
-      ∙ ap (λ (f : Fields). slotLine b k (itemBy (layoutOf b .placeOf k) f)) (fields-alike a k l)
-      ∙ line-by b w k
+  row-same : (k : ℕ) → k < layoutOf b .size → rowIn b t k ≡ rowIn b w k
+  row-same k l = ap (rowOf k (layoutOf b .placeOf k)) (fields-alike a k l)
 
-  row-same : (k : ℕ) → k < layoutOf b .size → rowAt b t k ≡ rowAt b w k
-  unfolding rowAt
-  row-same k l = rw (a .held k l, line-same k l)
-
-  rows-same : (n : ℕ) → n ≤ layoutOf b .size → rowsBelow b t n ≡ rowsBelow b w n
-  unfolding rowsBelow
+  rows-same : (n : ℕ) → n ≤ layoutOf b .size → rowsIn b t n ≡ rowsIn b w n
+  unfolding rowsIn rowAt
   rows-same zero l = refl
-  rows-same (suc n) l = rw (rows-same n (omega arith), row-same n l)
+  rows-same (suc n) l = rw (a .held n l, row-same n l, rows-same n (omega arith))
 
-lines-same : (h : Head) {t w : List ℕ} → SeenSame (layoutOf (h .board) .size) t w → tableLines h t ≡ tableLines h w
-unfolding tableLines
-lines-same h a =
-    let n = layoutOf (h .board) .size in
-    rw (rows-same (h .board) a n (omega arith), count-alike a n (omega arith))
+text-same : (h : Head) {t w : List ℕ} → SeenSame (layoutOf (h .board) .size) t w → tableText h t ≡ tableText h w
+unfolding tableText linesOf
+text-same h a = ap (λ (rs : List Row). joined (h .board) (wholeLines (topOf h) rs)) (rows-same (h .board) a _ (omega arith))
 
 pub listing-secret : {s u : List ℕ} → Alike s u → length s ≤ 65536 → length u ≤ 65536 → listing s ≡ listing u
 listing-secret {s} {u} a l m =
     listing-read s l
-    ∙ passing-secret (refusalLine trailer-not-good) faultLine tableLines (λ h t w d. lines-same h (seen d)) a
+    ∙ passing-secret (refusalLine trailer-not-good) faultLine tableText (λ h t w d. text-same h (seen d)) a
     ∙ sym (listing-read u m)
 
 pub verdict-secret : {s u : List ℕ} → Alike s u → length s ≤ 65536 → length u ≤ 65536 → verdict s ≡ verdict u

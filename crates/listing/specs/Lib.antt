@@ -1,3 +1,4 @@
+pub mod Line
 pub mod Lines
 pub mod Output
 pub mod Outward

@@ -13,7 +13,7 @@ use Rattle.survey.specs.Check.{onPassing, checkedSlice}
 use Rattle.text.specs.Dec.{dec}
 use Rattle.text.specs.Text.{text}
 use Rattle.listing.specs.declared.answering.Listed.{Listed}
-use Rattle.listing.specs.Lines.{tableLines}
+use Rattle.listing.specs.Lines.{tableText}
 
 -- the longest input that is read
 abbrev pub most : ℕ
@@ -39,7 +39,7 @@ unlessLong s t = cond (ltb most (length s)) (refusalLine wrong-length) t
 
 -- all that is printed of s
 unfoldable pub listing : List ℕ → List ℕ
-listing s = unlessLong s (onPassing s (refusalLine trailer-not-good) faultLine tableLines)
+listing s = unlessLong s (onPassing s (refusalLine trailer-not-good) faultLine tableText)
 
 -- the one line that tells whether s passes
 unfoldable pub verdict : List ℕ → List ℕ

@@ -11,7 +11,7 @@ ghost use Rattle.table.specs.Trailer.{Sized};
 ghost use Rattle.table.specs.Calls.{outcome};
 ghost use Rattle.survey.specs.Check.{unlessFault};
 ghost use Rattle.text.specs.Put.{Fits, Wrote};
-ghost use Rattle.listing.specs.Lines.{tableLines};
+ghost use Rattle.listing.specs.Lines.{tableText};
 ghost use Rattle.listing.specs.Output.{refusalLine, faultLine, verdictLine, listing, verdict, listed, listedInto, verdictInto};
 
 // The longest input that is read.
@@ -61,8 +61,8 @@ fn put_verdict(buf: &mut [u8], at: usize, c: Checked) -> usize
 fn put_checked(buf: &mut [u8], at: usize, t: &[u8], h: Head) -> usize
     requires { ⌜ Sized (h .board) (now t) ⌝ }
     requires { ⌜ h .delivered ≤ h .taken ⌝ }
-    requires { ⌜ Fits (now buf) at (unlessFault faultLine tableLines h (now t)) ⌝ }
-    ensures { λ r. ⌜ Wrote (now (buf .entry)) at (unlessFault faultLine tableLines h (now (t .entry))) (now (buf .exit)) r ⌝ }
+    requires { ⌜ Fits (now buf) at (unlessFault faultLine tableText h (now t)) ⌝ }
+    ensures { λ r. ⌜ Wrote (now (buf .entry)) at (unlessFault faultLine tableText h (now (t .entry))) (now (buf .exit)) r ⌝ }
 {
     let Lowest::At(place) = survey::checking::first_fault(t, h) else {
         return crate::writing::put_table(buf, at, t, h);

@@ -10,11 +10,11 @@ ghost use Prim.Native.Nat.{_≤_, _<_};
 ghost use Rattle.table.specs.Trailer.{Sized};
 ghost use Rattle.table.specs.Board.{GoodBoard};
 ghost use Rattle.table.specs.Layout.{layoutOf};
-ghost use Rattle.table.specs.Packets.{packetBy, itemBy};
 ghost use Rattle.network.specs.declared.Lowest.the-variants.{Nowhere};
 ghost use Rattle.survey.specs.Check.{faultIn};
 ghost use Rattle.text.specs.Put.{Fits, Wrote};
-ghost use Rattle.listing.specs.Lines.{gridText, countsText, headLine, letter, nodeText, placeText, packetText, slotLine, rowAt, rowsBelow, lastLine, tableLines};
+ghost use Rattle.listing.specs.Line.{gridText, countsText, headLine, letter, nodeText, placeText, packetText, slotLine, lastLine};
+ghost use Rattle.listing.specs.Lines.{topOf, rowOf, rowAt, rowsIn, rowsText, tableText};
 
 fn put_grid(buf: &mut [u8], at: usize, board: Board) -> usize
     requires { ⌜ GoodBoard board ⌝ }
@@ -27,8 +27,8 @@ fn put_grid(buf: &mut [u8], at: usize, board: Board) -> usize
 }
 
 fn put_counts(buf: &mut [u8], at: usize, h: Head) -> usize
-    requires { ⌜ Fits (now buf) at (countsText h) ⌝ }
-    ensures { λ r. ⌜ Wrote (now (buf .entry)) at (countsText h) (now (buf .exit)) r ⌝ }
+    requires { ⌜ Fits (now buf) at (countsText (h .taken) (h .delivered)) ⌝ }
+    ensures { λ r. ⌜ Wrote (now (buf .entry)) at (countsText (h .taken) (h .delivered)) (now (buf .exit)) r ⌝ }
 {
     let a = text::put_word_decimal(buf, at, b" taken ", h.taken);
     text::put_word_decimal(buf, a, b" delivered ", h.delivered)
@@ -36,8 +36,8 @@ fn put_counts(buf: &mut [u8], at: usize, h: Head) -> usize
 
 fn put_head(buf: &mut [u8], at: usize, h: Head) -> usize
     requires { ⌜ GoodBoard (h .board) ⌝ }
-    requires { ⌜ Fits (now buf) at (headLine h) ⌝ }
-    ensures { λ r. ⌜ Wrote (now (buf .entry)) at (headLine h) (now (buf .exit)) r ⌝ }
+    requires { ⌜ Fits (now buf) at (headLine (topOf h)) ⌝ }
+    ensures { λ r. ⌜ Wrote (now (buf .entry)) at (headLine (topOf h)) (now (buf .exit)) r ⌝ }
 {
     let board = h.board;
     let a = put_grid(buf, at, board);
@@ -86,8 +86,8 @@ fn put_place(buf: &mut [u8], at: usize, board: Board, slot: u32, here: Place) ->
 }
 
 fn put_packet(buf: &mut [u8], at: usize, board: Board, f: Fields) -> usize
-    requires { ⌜ Fits (now buf) at (packetText board (packetBy f)) ⌝ }
-    ensures { λ r. ⌜ Wrote (now (buf .entry)) at (packetText board (packetBy f)) (now (buf .exit)) r ⌝ }
+    requires { ⌜ Fits (now buf) at (packetText board (f .source) (f .destination) (f .hops) (f .serial)) ⌝ }
+    ensures { λ r. ⌜ Wrote (now (buf .entry)) at (packetText board (f .source) (f .destination) (f .hops) (f .serial)) (now (buf .exit)) r ⌝ }
 {
     let a = put_word_node(buf, at, b" from ", board, f.source);
     let b = put_word_node(buf, a, b" to ", board, f.destination);
@@ -103,8 +103,8 @@ fn put_slot_line(
     here: Place,
     f: Fields,
 ) -> usize
-    requires { ⌜ Fits (now buf) at (slotLine board slot (itemBy here f)) ⌝ }
-    ensures { λ r. ⌜ Wrote (now (buf .entry)) at (slotLine board slot (itemBy here f)) (now (buf .exit)) r ⌝ }
+    requires { ⌜ Fits (now buf) at (slotLine board (rowOf slot here f)) ⌝ }
+    ensures { λ r. ⌜ Wrote (now (buf .entry)) at (slotLine board (rowOf slot here f)) (now (buf .exit)) r ⌝ }
 {
     let a = put_place(buf, at, board, slot, here);
     let b = put_packet(buf, a, board, f);
@@ -115,8 +115,8 @@ fn put_slot_line(
 fn put_row(buf: &mut [u8], at: usize, t: &[u8], board: Board, k: usize) -> usize
     requires { ⌜ Sized board (now t) ⌝ }
     requires { ⌜ k < layoutOf board .size ⌝ }
-    requires { ⌜ Fits (now buf) at (rowAt board (now t) k) ⌝ }
-    ensures { λ r. ⌜ Wrote (now (buf .entry)) at (rowAt board (now (t .entry)) k) (now (buf .exit)) r ⌝ }
+    requires { ⌜ Fits (now buf) at (rowsText board (rowAt board (now t) k)) ⌝ }
+    ensures { λ r. ⌜ Wrote (now (buf .entry)) at (rowsText board (rowAt board (now (t .entry)) k)) (now (buf .exit)) r ⌝ }
 {
     if slots::slot_empty(t, k) {
         return at;
@@ -128,8 +128,8 @@ fn put_row(buf: &mut [u8], at: usize, t: &[u8], board: Board, k: usize) -> usize
 
 fn put_rows(buf: &mut [u8], at: usize, t: &[u8], board: Board) -> usize
     requires { ⌜ Sized board (now t) ⌝ }
-    requires { ⌜ Fits (now buf) at (rowsBelow board (now t) (layoutOf board .size)) ⌝ }
-    ensures { λ r. ⌜ Wrote (now (buf .entry)) at (rowsBelow board (now (t .entry)) (layoutOf board .size)) (now (buf .exit)) r ⌝ }
+    requires { ⌜ Fits (now buf) at (rowsText board (rowsIn board (now t) (layoutOf board .size))) ⌝ }
+    ensures { λ r. ⌜ Wrote (now (buf .entry)) at (rowsText board (rowsIn board (now (t .entry)) (layoutOf board .size))) (now (buf .exit)) r ⌝ }
 {
     let n = table::layout::slots_of(board);
     let mut end = at;
@@ -154,8 +154,8 @@ pub fn put_table(buf: &mut [u8], at: usize, t: &[u8], h: Head) -> usize
     requires { ⌜ Sized (h .board) (now t) ⌝ }
     requires { ⌜ h .delivered ≤ h .taken ⌝ }
     requires { ⌜ faultIn h (now t) ≡ Nowhere ⌝ }
-    requires { ⌜ Fits (now buf) at (tableLines h (now t)) ⌝ }
-    ensures { λ r. ⌜ Wrote (now (buf .entry)) at (tableLines h (now (t .entry))) (now (buf .exit)) r ⌝ }
+    requires { ⌜ Fits (now buf) at (tableText h (now t)) ⌝ }
+    ensures { λ r. ⌜ Wrote (now (buf .entry)) at (tableText h (now (t .entry))) (now (buf .exit)) r ⌝ }
 {
     let board = h.board;
     let a = put_head(buf, at, h);

@@ -11,8 +11,7 @@ ghost use Rattle.router.specs.Clear.{asked, clearedSlice};
 ghost use Rattle.router.specs.ReadPayload.{readSlice};
 ghost use Rattle.survey.specs.Check.{checkAnswer, checkedSlice};
 ghost use Rattle.survey.specs.Find.{findAnswer, foundSlice};
-ghost use Rattle.survey.specs.Copy.{copyAnswer};
-ghost use Rattle.paneglove.specs.Across.{takenAcross, movedAcross, readAcross, checkAcross, findAcross, copyAcross, copiedAcross, listedAcross};
+ghost use Rattle.paneglove.specs.Across.{takenAcross, movedAcross, readAcross, checkAcross, findAcross, copiedAcross, listedAcross};
 
 // A payload handed in: eight bytes by value.
 #[repr(C)]
@@ -139,57 +138,15 @@ pub extern "C" fn paneglove_read_payload(s: &[u8], slot: u32) -> Read
     Read { number: 0, payload }
 }
 
-fn check_across(a: checking::Checked) -> Checked
-    ensures { λ r. ⌜ r ≡ checkAcross (checkAnswer a) ⌝ }
-{
-    match a {
-        checking::Checked::Passes => Checked {
-            number: 0,
-            place: 0,
-        },
-        checking::Checked::BadTrailer => Checked {
-            number: table::refusals::TRAILER,
-            place: 0,
-        },
-        checking::Checked::FaultAt(place) => Checked {
-            number: table::refusals::FAULT,
-            place,
-        },
-    }
-}
-
 // Refuses by 1 (trailer), then 10 (the check failed; the place is answered).
 #[no_mangle]
 pub extern "C" fn paneglove_full_check(s: &[u8]) -> Checked
     ensures { λ r. ⌜ r ≡ checkAcross (checkAnswer (checkedSlice (now (s .entry)))) ⌝ }
 {
-    check_across(survey::full_check(s))
-}
-
-fn find_across(a: finding::Found) -> Found
-    ensures { λ r. ⌜ r ≡ findAcross (findAnswer a) ⌝ }
-{
-    match a {
-        finding::Found::Move(slot, code) => Found {
-            number: 0,
-            slot,
-            code,
-        },
-        finding::Found::BadTrailer => Found {
-            number: table::refusals::TRAILER,
-            slot: 0,
-            code: 0,
-        },
-        finding::Found::FaultAt(place) => Found {
-            number: table::refusals::FAULT,
-            slot: place,
-            code: 0,
-        },
-        finding::Found::NothingHeld => Found {
-            number: table::refusals::NOTHING_HELD,
-            slot: 0,
-            code: 0,
-        },
+    let a = checking::answer_of(survey::full_check(s));
+    Checked {
+        number: a.number,
+        place: a.place,
     }
 }
 
@@ -198,29 +155,11 @@ fn find_across(a: finding::Found) -> Found
 pub extern "C" fn paneglove_find(s: &[u8]) -> Found
     ensures { λ r. ⌜ r ≡ findAcross (findAnswer (foundSlice (now (s .entry)))) ⌝ }
 {
-    find_across(survey::find(s))
-}
-
-fn copy_across(a: copying::Copied) -> Copied
-    ensures { λ r. ⌜ r ≡ copyAcross (copyAnswer a) ⌝ }
-{
-    match a {
-        copying::Copied::Done => Copied {
-            number: 0,
-            place: 0,
-        },
-        copying::Copied::BadTrailer => Copied {
-            number: table::refusals::TRAILER,
-            place: 0,
-        },
-        copying::Copied::FaultAt(place) => Copied {
-            number: table::refusals::FAULT,
-            place,
-        },
-        copying::Copied::WrongLength => Copied {
-            number: table::refusals::BUFFER,
-            place: 0,
-        },
+    let a = finding::answer_of(survey::find(s));
+    Found {
+        number: a.number,
+        slot: a.slot,
+        code: a.code,
     }
 }
 
@@ -230,8 +169,12 @@ fn copy_across(a: copying::Copied) -> Copied
 pub extern "C" fn paneglove_copy_outward(s: &[u8], out: &mut [u8]) -> Copied
     ensures { λ r. ⌜ outcome r (now (out .exit)) ≡ copiedAcross (now (s .entry)) (now (out .entry)) ⌝ }
 {
-    let a = survey::copy_outward(s, out);
-    copy_across(a)
+    let copied = survey::copy_outward(s, out);
+    let a = copying::answer_of(copied);
+    Copied {
+        number: a.number,
+        place: a.place,
+    }
 }
 
 // Refuses by 9 where the second buffer is shorter than the room, 226,627 bytes. Else the listing stands at its start, a refused table's in the

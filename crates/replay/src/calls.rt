@@ -1,8 +1,8 @@
 // The commands that make a call: each reads its numbers from its own bytes `c`, makes the call, and says the answer.
 use crate::saying;
-use survey::checking::Checked;
-use survey::copying::Copied;
-use survey::finding::Found;
+use survey::checking;
+use survey::copying;
+use survey::finding;
 ghost use mathlib.Core.Path.{_≡_};
 ghost use lib.ListN.{length};
 
@@ -60,40 +60,23 @@ fn answer(label: &[u8], number: u32, place: u32) {
 }
 
 pub fn full_check(s: &[u8]) {
-    let checked = survey::full_check(s);
-    match checked {
-        Checked::Passes => answer(b"check", 0, 0),
-        Checked::BadTrailer => answer(b"check", table::refusals::TRAILER, 0),
-        Checked::FaultAt(place) => answer(b"check", table::refusals::FAULT, place),
-    }
-}
-
-fn found(number: u32, slot: u32, code: u32) {
-    saying::word(b"find");
-    saying::value(number);
-    saying::value(slot);
-    saying::value(code);
-    saying::end();
+    let a = checking::answer_of(survey::full_check(s));
+    answer(b"check", a.number, a.place);
 }
 
 pub fn find(s: &[u8]) {
-    let answered = survey::find(s);
-    match answered {
-        Found::Move(slot, code) => found(0, slot, code),
-        Found::BadTrailer => found(table::refusals::TRAILER, 0, 0),
-        Found::FaultAt(place) => found(table::refusals::FAULT, place, 0),
-        Found::NothingHeld => found(table::refusals::NOTHING_HELD, 0, 0),
-    }
+    let a = finding::answer_of(survey::find(s));
+    saying::word(b"find");
+    saying::value(a.number);
+    saying::value(a.slot);
+    saying::value(a.code);
+    saying::end();
 }
 
 pub fn copy_outward(s: &[u8], out: &mut [u8]) {
     let copied = survey::copy_outward(s, out);
-    match copied {
-        Copied::Done => answer(b"copy", 0, 0),
-        Copied::BadTrailer => answer(b"copy", table::refusals::TRAILER, 0),
-        Copied::FaultAt(place) => answer(b"copy", table::refusals::FAULT, place),
-        Copied::WrongLength => answer(b"copy", table::refusals::BUFFER, 0),
-    }
+    let a = copying::answer_of(copied);
+    answer(b"copy", a.number, a.place);
 }
 
 pub fn show(label: &[u8], s: &[u8]) {

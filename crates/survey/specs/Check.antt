@@ -19,6 +19,7 @@ use Rattle.table.specs.Layout.{layoutOf}
 use Rattle.table.specs.Trailer.{trailerOf}
 use Rattle.table.specs.Packets.{goodAt}
 use Rattle.table.specs.Queues.{emptyAt}
+use Rattle.survey.specs.declared.checking.CheckAnswer as declared
 use Rattle.survey.specs.declared.checking.Checked.{Checked}
 use Rattle.survey.specs.declared.checking.Checked.the-variants.{Passes, BadTrailer, FaultAt}
 
@@ -95,9 +96,8 @@ unfoldable pub checkedSlice : List ℕ → Checked
 checkedSlice s = onPassing s BadTrailer FaultAt (λ h t. Passes)
 
 -- the paper's number and place of each answer
-pub record CheckAnswer : Type 0 where
-  pub number : ℕ
-  pub place : ℕ
+abbrev pub CheckAnswer : Type 0
+CheckAnswer = declared.CheckAnswer
 
 abbrev pub checkAnswer : Checked → CheckAnswer
 checkAnswer Passes = record { number = 0; place = 0 }

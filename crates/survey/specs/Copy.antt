@@ -10,6 +10,7 @@ use Rattle.table.specs.declared.trailer.Head.{Head}
 use Rattle.table.specs.Refusals.{trailer-not-good, check-failed, wrong-length}
 use Rattle.table.specs.Layout.{layoutOf}
 use Rattle.table.specs.Calls.{Outcome, outcome}
+use Rattle.survey.specs.declared.copying.CopyAnswer as declared
 use Rattle.survey.specs.declared.copying.Copied.{Copied}
 use Rattle.survey.specs.declared.copying.Copied.the-variants.{Done, BadTrailer, FaultAt, WrongLength}
 use Rattle.survey.specs.Check.{unlessFault, onPassing}
@@ -34,9 +35,8 @@ unfoldable pub copiedSlice : List ℕ → List ℕ → Outcome Copied (List ℕ)
 copiedSlice s out = onPassing s (outcome BadTrailer out) (λ place. outcome (FaultAt place) out) (copiedIn out)
 
 -- the paper's number and place of each answer
-pub record CopyAnswer : Type 0 where
-  pub number : ℕ
-  pub place : ℕ
+abbrev pub CopyAnswer : Type 0
+CopyAnswer = declared.CopyAnswer
 
 abbrev pub copyAnswer : Copied → CopyAnswer
 copyAnswer Done = record { number = 0; place = 0 }

@@ -12,6 +12,7 @@ use Rattle.table.specs.Refusals.{trailer-not-good, check-failed, nothing-held}
 use Rattle.table.specs.Board.{netOf}
 use Rattle.table.specs.Layout.{layoutOf}
 use Rattle.router.specs.Move.{moveDue}
+use Rattle.survey.specs.declared.finding.FindAnswer as declared
 use Rattle.survey.specs.declared.finding.Found.{Found}
 use Rattle.survey.specs.declared.finding.Found.the-variants.{Move, BadTrailer, FaultAt, NothingHeld}
 use Rattle.survey.specs.Check.{unlessFault, onPassing}
@@ -42,10 +43,8 @@ unfoldable pub foundSlice : List ℕ → Found
 foundSlice s = onPassing s BadTrailer FaultAt foundIn
 
 -- the paper's number and values of each answer
-pub record FindAnswer : Type 0 where
-  pub number : ℕ
-  pub slot : ℕ
-  pub code : ℕ
+abbrev pub FindAnswer : Type 0
+FindAnswer = declared.FindAnswer
 
 abbrev pub findAnswer : Found → FindAnswer
 findAnswer (Move slot code) = record { number = 0; slot = slot; code = code }

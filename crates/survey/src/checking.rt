@@ -7,13 +7,38 @@ ghost use Prim.Native.Nat.{_+_, _*_, _≤_, _<_};
 ghost use lib.ListN.{length};
 ghost use Rattle.table.specs.Trailer.{Sized};
 ghost use Rattle.table.specs.Layout.{layoutOf};
-ghost use Rattle.survey.specs.Check.{heldAt, spoiledAt, firstSpoiled, hasSerial, repeatsAt, firstRepeat, heldBelow, miscount, faultIn, checkedIn, checkedSlice};
+ghost use Rattle.survey.specs.Check.{heldAt, spoiledAt, firstSpoiled, hasSerial, repeatsAt, firstRepeat, heldBelow, miscount, faultIn, checkedIn, checkedSlice, checkAnswer};
 ghost use Rattle.survey.specs.Filter.{Met};
 
 pub enum Checked {
     Passes,
     BadTrailer,
     FaultAt(u32),
+}
+
+// The paper's number and place of an answer.
+pub struct CheckAnswer {
+    pub number: u32,
+    pub place: u32,
+}
+
+pub fn answer_of(c: Checked) -> CheckAnswer
+    ensures { λ r. ⌜ r ≡ checkAnswer c ⌝ }
+{
+    match c {
+        Checked::Passes => CheckAnswer {
+            number: 0,
+            place: 0,
+        },
+        Checked::BadTrailer => CheckAnswer {
+            number: table::refusals::TRAILER,
+            place: 0,
+        },
+        Checked::FaultAt(place) => CheckAnswer {
+            number: table::refusals::FAULT,
+            place,
+        },
+    }
 }
 
 fn held(t: &[u8], k: usize) -> bool

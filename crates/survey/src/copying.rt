@@ -8,13 +8,42 @@ ghost use lib.ListN.{length};
 ghost use Rattle.slots.specs.Slots.{slotAt};
 ghost use Rattle.table.specs.Trailer.{Sized};
 ghost use Rattle.table.specs.Calls.{outcome};
-ghost use Rattle.survey.specs.Copy.{withoutPayload, veiled, copiedIn, copiedUnless, copiedSlice};
+ghost use Rattle.survey.specs.Copy.{withoutPayload, veiled, copiedIn, copiedUnless, copiedSlice, copyAnswer};
 
 pub enum Copied {
     Done,
     BadTrailer,
     FaultAt(u32),
     WrongLength,
+}
+
+// The paper's number and place of an answer.
+pub struct CopyAnswer {
+    pub number: u32,
+    pub place: u32,
+}
+
+pub fn answer_of(c: Copied) -> CopyAnswer
+    ensures { λ r. ⌜ r ≡ copyAnswer c ⌝ }
+{
+    match c {
+        Copied::Done => CopyAnswer {
+            number: 0,
+            place: 0,
+        },
+        Copied::BadTrailer => CopyAnswer {
+            number: table::refusals::TRAILER,
+            place: 0,
+        },
+        Copied::FaultAt(place) => CopyAnswer {
+            number: table::refusals::FAULT,
+            place,
+        },
+        Copied::WrongLength => CopyAnswer {
+            number: table::refusals::BUFFER,
+            place: 0,
+        },
+    }
 }
 
 // The bytes of slot `k` with the payload zero, by value.

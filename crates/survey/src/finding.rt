@@ -5,13 +5,47 @@ use table::trailer::Headed;
 ghost use mathlib.Core.Path.{_≡_};
 ghost use Prim.Native.Nat.{_≤_};
 ghost use Rattle.table.specs.Trailer.{Sized};
-ghost use Rattle.survey.specs.Find.{firstCode, foundIn, foundUnless, foundSlice};
+ghost use Rattle.survey.specs.Find.{firstCode, foundIn, foundUnless, foundSlice, findAnswer};
 
 pub enum Found {
     Move(u32, u32),
     BadTrailer,
     FaultAt(u32),
     NothingHeld,
+}
+
+// The paper's number and values of an answer; where the check failed, its place is the slot.
+pub struct FindAnswer {
+    pub number: u32,
+    pub slot: u32,
+    pub code: u32,
+}
+
+pub fn answer_of(f: Found) -> FindAnswer
+    ensures { λ r. ⌜ r ≡ findAnswer f ⌝ }
+{
+    match f {
+        Found::Move(slot, code) => FindAnswer {
+            number: 0,
+            slot,
+            code,
+        },
+        Found::BadTrailer => FindAnswer {
+            number: table::refusals::TRAILER,
+            slot: 0,
+            code: 0,
+        },
+        Found::FaultAt(place) => FindAnswer {
+            number: table::refusals::FAULT,
+            slot: place,
+            code: 0,
+        },
+        Found::NothingHeld => FindAnswer {
+            number: table::refusals::NOTHING_HELD,
+            slot: 0,
+            code: 0,
+        },
+    }
 }
 
 // The lowest code whose move of that slot would be accepted.

@@ -1,8 +1,7 @@
--- `paneglove::paneglove_full_check` meets its contract: the answer of `full_check` crosses.
+-- `paneglove::paneglove_full_check` meets its contract: the paper's number and values of the answer cross.
 -- Assumes nothing.
 use mathlib.Core.Path.{ap, _∙_}
 use borrow.Author.Needs.{needs}
-use Rattle.survey.specs.declared.checking.Checked.{Checked}
 use Rattle.survey.specs.Check.{checkAnswer}
 use Rattle.paneglove.specs.Across.{checkAcross}
 use Rattle.paneglove.proofs.paneglove_full_check.Statement.{statement}
@@ -11,11 +10,11 @@ use Rattle.paneglove.proofs.paneglove_full_check.Tie as tie
 full-check-requires : tie.Need-full-check-requires
 full-check-requires c κs = search needs
 
-check-across-requires : tie.Need-check-across-requires
-check-across-requires c κs = search needs
+answer-of-requires : tie.Need-answer-of-requires
+answer-of-requires c κs = search needs
 
 returns : tie.Need-returns
-returns c = c .check-across .ensures ∙ ap (λ (a : Checked). checkAcross (checkAnswer a)) (c .before .full-check .ensures)
+returns c = ap checkAcross (c .answer-of .ensures ∙ ap checkAnswer (c .before .full-check .ensures))
 
 pub paneglove-full-check-spec : {M : Type 1} → statement M
-paneglove-full-check-spec = tie.close (tie.spec full-check-requires check-across-requires returns)
+paneglove-full-check-spec = tie.close (tie.spec full-check-requires answer-of-requires returns)

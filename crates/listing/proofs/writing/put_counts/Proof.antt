@@ -2,7 +2,7 @@
 -- Assumes nothing.
 use borrow.Author.Needs.{needs}
 use Rattle.text.proofs.PutLaws.{first-fits, next-fits, then}
-use Rattle.listing.specs.Lines.{countsText}
+use Rattle.listing.specs.Line.{countsText}
 use Rattle.listing.proofs.writing.put_counts.Statement.{statement}
 use Rattle.listing.proofs.writing.put_counts.Tie as tie
 

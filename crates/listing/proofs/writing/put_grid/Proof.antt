@@ -2,7 +2,7 @@
 -- Assumes nothing.
 use borrow.Author.Needs.{needs}
 use Rattle.text.proofs.PutLaws.{first-fits, next-fits, then}
-use Rattle.listing.specs.Lines.{gridText}
+use Rattle.listing.specs.Line.{gridText}
 use Rattle.listing.proofs.writing.put_grid.Statement.{statement}
 use Rattle.listing.proofs.writing.put_grid.Tie as tie
 

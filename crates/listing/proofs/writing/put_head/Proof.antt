@@ -2,7 +2,7 @@
 -- Assumes nothing.
 use borrow.Author.Needs.{needs}
 use Rattle.text.proofs.PutLaws.{first-fits, next-fits, then}
-use Rattle.listing.specs.Lines.{headLine}
+use Rattle.listing.specs.Line.{headLine}
 use Rattle.listing.proofs.writing.put_head.Statement.{statement}
 use Rattle.listing.proofs.writing.put_head.Tie as tie
 

@@ -2,7 +2,7 @@
 -- Assumes nothing.
 use borrow.Author.Needs.{needs}
 use Rattle.text.proofs.PutLaws.{first-fits, next-fits, then}
-use Rattle.listing.specs.Lines.{lastLine}
+use Rattle.listing.specs.Line.{lastLine}
 use Rattle.listing.proofs.writing.put_last.Statement.{statement}
 use Rattle.listing.proofs.writing.put_last.Tie as tie
 

@@ -4,7 +4,7 @@ use mathlib.Core.Path.{_≡_, sym, ap}
 use borrow.Author.Needs.{needs}
 use Rattle.text.specs.Put.{Fits}
 use Rattle.text.proofs.PutLaws.{first-fits, next-fits, then}
-use Rattle.listing.specs.Lines.{coordinatesText, nodeText}
+use Rattle.listing.specs.Line.{coordinatesText, nodeText}
 use Rattle.listing.proofs.writing.put_node.Statement.{statement}
 use Rattle.listing.proofs.writing.put_node.Tie as tie
 

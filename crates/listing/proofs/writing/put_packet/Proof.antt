@@ -2,7 +2,7 @@
 -- Assumes nothing.
 use borrow.Author.Needs.{needs}
 use Rattle.text.proofs.PutLaws.{first-fits, next-fits, then}
-use Rattle.listing.specs.Lines.{packetText}
+use Rattle.listing.specs.Line.{packetText}
 use Rattle.listing.proofs.writing.put_packet.Statement.{statement}
 use Rattle.listing.proofs.writing.put_packet.Tie as tie
 

@@ -2,7 +2,7 @@
 -- Assumes nothing.
 use borrow.Author.Needs.{needs}
 use Rattle.text.proofs.PutLaws.{first-fits, next-fits, then}
-use Rattle.listing.specs.Lines.{placeText}
+use Rattle.listing.specs.Line.{placeText}
 use Rattle.listing.proofs.writing.put_place.Statement.{statement}
 use Rattle.listing.proofs.writing.put_place.Tie as tie
 

@@ -1,26 +1,26 @@
 -- `listing::writing::put_row` meets its contract: nothing for an empty slot, else the line of its place and its fields.
 -- Assumes nothing.
-use mathlib.Core.Path.{_≡_, sym, _∙_}
+use mathlib.Core.Path.{_≡_, sym}
 use native.Mathlib.Omega.{arith}
 use borrow.Author.Needs.{needs}
 use Rattle.network.proofs.Tests.{held, failed}
-use Rattle.table.specs.Packets.{itemBy}
 use Rattle.table.proofs.BoardLaws.{slots-most, slot-fits}
 use Rattle.text.proofs.PutLaws.{wrote-nothing}
-use Rattle.listing.specs.Lines.{slotLine, rowAt}
-use Rattle.listing.proofs.RowLaws.{row-empty, row-held, line-by}
+use Rattle.listing.specs.Line.{slotLine}
+use Rattle.listing.specs.Lines.{rowOf, rowAt, rowsText}
+use Rattle.listing.proofs.RowLaws.{row-empty, row-held}
 use Rattle.listing.proofs.writing.put_row.Statement.{statement}
 use Rattle.listing.proofs.writing.put_row.Tie as tie
 
 -- past the test the row is the line of what has been read
 row-is : (c : tie.After-read-fields) →
     let a = c .before .before .before .before .before .before .args in
-    slotLine (a .board) (a .k) (itemBy (c .before .place-of .result) (c .read-fields .result)) ≡ rowAt (a .board) (a .t .now) (a .k)
+    slotLine (a .board) (rowOf (a .k) (c .before .place-of .result) (c .read-fields .result)) ≡ rowsText (a .board) (rowAt (a .board) (a .t .now) (a .k))
 row-is c =
     let e = c .before .before .before in
     let a = e .before .before .before .args in
     rw (c .before .place-of .ensures, c .read-fields .ensures)
-    (line-by (a .board) (a .t .now) (a .k) ∙ sym (row-held (a .board) (a .t .now) (a .k) (failed (e .slot-empty .ensures) (c .before .before .if1 .left))))
+    (sym (row-held (a .board) (a .t .now) (a .k) (failed (e .slot-empty .ensures) (c .before .before .if1 .left))))
 
 slot-empty-requires : tie.Need-slot-empty-requires
 slot-empty-requires c κs = slot-fits (c .before .before .pre .0) _ (c .before .before .pre .1 .0)

@@ -8,14 +8,14 @@ use lib.ListN.{length}
 use Rattle.table.specs.Layout.{layoutOf}
 use Rattle.text.specs.Put.{Wrote}
 use Rattle.text.proofs.PutLaws.{next-fits, then, wrote-nothing, wrote-long}
-use Rattle.listing.specs.Lines.{rowsBelow}
-use Rattle.listing.proofs.RowLaws.{rows-none, rows-more, row-fits}
+use Rattle.listing.specs.Lines.{rowsIn, rowsText}
+use Rattle.listing.proofs.RowLaws.{no-rows, rows-more, row-fits}
 use Rattle.listing.proofs.writing.put_rows.Statement.{statement}
 use Rattle.listing.proofs.writing.put_rows.Tie as tie
 
 abbrev Inv-loop : tie.InvT-loop
 Inv-loop buf₀ at t board n end₀ k₀ buf end k =
-    (k ≤ n) × (length buf ≡ length buf₀) × Wrote buf₀ at (rowsBelow board t k) buf end
+    (k ≤ n) × (length buf ≡ length buf₀) × Wrote buf₀ at (rowsText board (rowsIn board t k)) buf end
 
 abbrev μ-loop : tie.MeasureT-loop
 μ-loop buf₀ at t board n end₀ k₀ buf end k = n - k
@@ -27,7 +27,7 @@ loop-holds : tie.Need-loop-holds Inv-loop μ-loop
 loop-holds c =
     let s = c .before .before .before in
     let a = s .args in
-    (omega arith, refl, rw (rows-none (a .board) (a .t .now)) (wrote-nothing (a .buf .now) (a .at) (omega (arith, s .pre .1 .room))))
+    (omega arith, refl, rw (no-rows (a .board) (a .t .now)) (wrote-nothing (a .buf .now) (a .at) (omega (arith, s .pre .1 .room))))
 
 put-row-requires : tie.Need-put-row-requires Inv-loop μ-loop
 put-row-requires c κs =

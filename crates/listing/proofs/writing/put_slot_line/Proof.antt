@@ -2,7 +2,7 @@
 -- Assumes nothing.
 use borrow.Author.Needs.{needs}
 use Rattle.text.proofs.PutLaws.{first-fits, next-fits, then}
-use Rattle.listing.specs.Lines.{slotLine}
+use Rattle.listing.specs.Line.{slotLine}
 use Rattle.listing.proofs.writing.put_slot_line.Statement.{statement}
 use Rattle.listing.proofs.writing.put_slot_line.Tie as tie
 

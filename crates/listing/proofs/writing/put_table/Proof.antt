@@ -2,48 +2,45 @@
 -- Assumes nothing.
 use borrow.Author.Needs.{needs}
 use Rattle.text.proofs.PutLaws.{first-fits, next-fits, then}
-use Rattle.listing.specs.Lines.{tableLines}
-use Rattle.survey.proofs.CheckLaws.{fault-none}
+use Rattle.listing.proofs.RowLaws.{passing-is}
 use Rattle.listing.proofs.writing.put_table.Statement.{statement}
 use Rattle.listing.proofs.writing.put_table.Tie as tie
 
 put-head-requires : tie.Need-put-head-requires
-unfolding tableLines
 put-head-requires c κs =
     let s = c .before .before .before .before in
-    (s .pre .0 .board, first-fits _ _ (first-fits _ _ (s .pre .1 .1 .1)))
+    let e = passing-is (s .args .h) (s .args .t .now) (s .pre .1 .1 .0) in
+    (s .pre .0 .board, first-fits _ _ (first-fits _ _ (rw e at (s .pre .1 .1 .1))))
 
 put-rows-requires : tie.Need-put-rows-requires
-unfolding tableLines
 put-rows-requires c κs =
     let p = c .before .before .before in
     let s = p .before .before .before .before .before in
-    (s .pre .0, next-fits (p .put-head .ensures) (first-fits _ _ (s .pre .1 .1 .1)))
+    let e = passing-is (s .args .h) (s .args .t .now) (s .pre .1 .1 .0) in
+    (s .pre .0, next-fits (p .put-head .ensures) (first-fits _ _ (rw e at (s .pre .1 .1 .1))))
 
 sub-put-last : tie.Need-sub-put-last
 sub-put-last c = search needs
 
 put-last-requires : tie.Need-put-last-requires
-unfolding tableLines
 put-last-requires c κs =
     let q = c .before .before .before .before in
     let p = q .before .before .before .before in
     let s = p .before .before .before .before .before in
-    rw (fault-none (s .args .h) (s .args .t .now) (s .pre .1 .1 .0) .counted)
-    (next-fits (then (p .put-head .ensures) (q .put-rows .ensures)) (s .pre .1 .1 .1))
+    let e = passing-is (s .args .h) (s .args .t .now) (s .pre .1 .1 .0) in
+    next-fits (then (p .put-head .ensures) (q .put-rows .ensures)) (rw e at (s .pre .1 .1 .1))
 
 same-length : tie.Need-same-length
 same-length c = search needs
 
 returns : tie.Need-returns
-unfolding tableLines
 returns c =
     let r = c .before .before in
     let q = r .before .before .before .before .before in
     let p = q .before .before .before .before in
     let s = p .before .before .before .before .before in
-    let w = rw (fault-none (s .args .h) (s .args .t .now) (s .pre .1 .1 .0) .counted) at (r .put-last .ensures) in
-    then (then (p .put-head .ensures) (q .put-rows .ensures)) w
+    let e = passing-is (s .args .h) (s .args .t .now) (s .pre .1 .1 .0) in
+    rw e (then (then (p .put-head .ensures) (q .put-rows .ensures)) (r .put-last .ensures))
 
 pub put-table-spec : {M : Type 1} → statement M
 put-table-spec =
