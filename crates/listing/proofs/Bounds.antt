@@ -1,19 +1,17 @@
 -- How long a listing is: a slot's line at most 59 bytes, the head line 57, the last line 10; and a verdict at most one line of 59.
 -- Assumes nothing.
 use Prim.Native.Nat.{ℕ, zero, suc, _+_, _-_, _*_, _^_, _≤_, _<_}
-use mathlib.Core.Path.{_≡_, refl, sym, ap, _∙_}
+use mathlib.Core.Path.{_≡_, refl, ap}
 use mathlib.Core.Bool.{Bool, true, false, not, cond}
 use mathlib.Core.List.{List}
 use native.Mathlib.Omega.{arith}
 use lib.Dec.{ltb}
 use lib.ListN.{length, getD, drop, length-append}
 use lib.Seq.{getD-drop}
-use borrow.Author.Tests.{not-false}
 use Rattle.network.specs.declared.Kind.{Kind}
 use Rattle.network.specs.declared.Kind.the-variants.{Waiting, A, B}
 use Rattle.network.specs.declared.Lowest.{Lowest}
 use Rattle.network.specs.declared.Lowest.the-variants.{At, Nowhere}
-use Rattle.network.proofs.Tests.{and-yes}
 use Rattle.slots.specs.Slots.{slotAt, zeros}
 use Rattle.table.specs.declared.board.Board.{Board}
 use Rattle.table.specs.declared.trailer.Head.{Head}
@@ -29,7 +27,7 @@ use Rattle.table.proofs.PacketLaws.{good-here, good-hops}
 use Rattle.table.proofs.TrailerLaws.{trailer-good}
 use Rattle.survey.specs.declared.checking.Checked.the-variants.{Passes, BadTrailer, FaultAt}
 use Rattle.survey.specs.Check.{heldAt, heldBelow, faultIn, faultOr, unlessFault, readBy, onPassing, checkedSlice}
-use Rattle.survey.proofs.CheckLaws.{fault-none, fault-most}
+use Rattle.survey.proofs.CheckLaws.{held-good, fault-most}
 use Rattle.text.proofs.DecLaws.{length-dec, length-u32}
 use Rattle.listing.specs.Line.{gridText, countsText, headLine, letter, nodeText, placeText, packetText, slotLine, lastLine}
 use Rattle.listing.specs.Lines.{topOf, rowIn, rowAt, rowsIn, rowsText, tableText}
@@ -38,13 +36,13 @@ use Rattle.listing.proofs.RowLaws.{row-empty, row-held, no-rows, rows-l
 
 -- ---- the lines of a table that passes
 
-node-short : (b : Board) (n : ℕ) → n < 256 → length (nodeText b n) ≤ 5
+pub node-short : (b : Board) (n : ℕ) → n < 256 → length (nodeText b n) ≤ 5
 unfolding nodeText
 node-short b n l =
     let c = coordinates-small b n l in
     simp length-append (omega (arith, length-dec 1 (coordinatesOf b n .x) (omega arith), length-dec 1 (coordinatesOf b n .y) (omega arith)))
 
-letter-one : (k : Kind) → length (letter k) ≡ 1
+pub letter-one : (k : Kind) → length (letter k) ≡ 1
 letter-one Waiting = refl
 letter-one A = refl
 letter-one B = refl
@@ -98,15 +96,12 @@ module _ (h : Head) (g : GoodBoard (h .board)) (t : List ℕ) (few : h .taken < 
       ))
 
   module _ (passes : faultIn h t ≡ Nowhere) where
-    sound : (k : ℕ) → k < size → heldAt t k ≡ true → goodAt h t k ≡ true
-    sound k l e = not-false _ (sym (and-yes e) ∙ fault-none h t passes .sound .lacks k (omega arith) (omega arith))
-
     row-short : (k : ℕ) → k < size → length (rowsText (h .board) (rowAt (h .board) t k)) ≤ 59
     row-short k l = go (zeros (slotAt t k)) refl
       where
         go : (b : Bool) → zeros (slotAt t k) ≡ b → length (rowsText (h .board) (rowAt (h .board) t k)) ≤ 59
         go true e = rw (row-empty (h .board) t k e) (omega arith)
-        go false e = rw (row-held (h .board) t k e) (line-short k l (sound k l (ap not e)))
+        go false e = rw (row-held (h .board) t k e) (line-short k l (held-good h t passes k l (ap not e)))
 
     rows-short : (n : ℕ) → n ≤ size → length (rowsText (h .board) (rowsIn (h .board) t n)) ≤ 59 * n
     rows-short zero l = rw (no-rows (h .board) t) (omega arith)

@@ -2,7 +2,7 @@
 -- Assumes nothing.
 use Prim.Native.Nat.{ℕ, _-_, _≤_, _<_}
 use mathlib.Core.Path.{_≡_, refl, sym, ap, _∙_}
-use mathlib.Core.Bool.{true, false, _||_}
+use mathlib.Core.Bool.{true, _||_}
 use mathlib.Core.List.{List, [], _∷_, _++_}
 use mathlib.Core.Logic.{⊎-elim}
 use native.Mathlib.Omega.{arith}
@@ -28,7 +28,7 @@ use Rattle.survey.specs.declared.copying.Copied.{Copied}
 use Rattle.survey.specs.declared.copying.Copied.the-variants as copied
 use Rattle.survey.specs.Check.{faultIn, faultOr, unlessFault, readBy, onPassing}
 use Rattle.survey.specs.Copy.{veiled, copiedIn, copiedSlice}
-use Rattle.survey.proofs.CopyLaws.{length-veiled}
+use Rattle.survey.proofs.ShownLaws.{length-veiled}
 use Rattle.survey.proofs.copying.Copied.{the-type}
 use Rattle.listing.specs.declared.sending.Sent.{Sent}
 use Rattle.listing.specs.Output.{most, verdict, lineRoom}

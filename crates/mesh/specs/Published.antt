@@ -22,6 +22,7 @@ pub record Line : Type 0 where
 abbrev line : ℕ → Lead → Bool → Line
 line c l b = record { leads = l; if = b; code = c }
 
+-- in A the lines of codes 3 and 5 are the dynamic hops; all other hops are static
 abbrev pub printed : Kind → ℕ → ℕ → ℕ → ℕ → List Line
 printed Waiting x y z w =
     line 1 (Turn A) (ltb x z || ltb y w)

@@ -49,7 +49,7 @@ inEach waiting a b Waiting = waiting
 inEach waiting a b A = a
 inEach waiting a b B = b
 
--- the third column: when a step is offered from waiting, in A, in B
+-- the third column: when a step is offered from waiting, in A, in B. Left and Down in A are the dynamic hops; every other hop is a static one
 abbrev pub offers : Step → Signs → Kind → Bool
 offers Enter s = inEach true false false
 offers Right s = inEach false (s .right) false

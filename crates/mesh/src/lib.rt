@@ -114,7 +114,7 @@ fn in_each(waiting: bool, a: bool, b: bool, kind: Kind) -> bool
     }
 }
 
-// Document 01's third column.
+// Document 01's third column. Left and Down in A are the dynamic hops.
 fn offered(step: Step, s: Signs, kind: Kind) -> bool
     ensures { λ r. ⌜ r ≡ offers step s kind ⌝ }
 {

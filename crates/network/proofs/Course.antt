@@ -9,14 +9,14 @@ use Rattle.network.specs.declared.Kind.{Kind}
 use Rattle.network.specs.declared.Kind.the-variants.{Waiting, A, B}
 use Rattle.network.specs.declared.Lead.the-variants.{Hop, Turn, Out}
 use Rattle.network.specs.Net.{Net, NetLaws, RuleLaws, at, beside}
-use Rattle.network.specs.Packet.{Item, fitsKind, good, Good, offer, withHops, hopped, turned, handed, weight, bound}
+use Rattle.network.specs.Packet.{Item, fitsKind, good, GoodItem, offer, withHops, hopped, turned, handed, weight, bound}
 use Rattle.network.specs.Contents.{serialOf}
 use Rattle.network.specs.Machine.{Led, by-hop, by-turn}
 use Rattle.network.proofs.Tests.{and-l, and-r, and-both}
 
 -- the test and its meaning
 module _ (N : Net) (taken delivered : ℕ) (x : Item) where
-  pub good-means : N .valid (x .place .node) ≡ true → good N taken delivered x ≡ true → Good N taken delivered x
+  pub good-means : N .valid (x .place .node) ≡ true → good N taken delivered x ≡ true → GoodItem N taken delivered x
   unfolding good
   good-means h g = record {
     here = h;
@@ -30,12 +30,12 @@ module _ (N : Net) (taken delivered : ℕ) (x : Item) where
     fits = search (and-l, and-r) depth 9;
   }
 
-  pub means-good : Good N taken delivered x → good N taken delivered x ≡ true
+  pub means-good : GoodItem N taken delivered x → good N taken delivered x ≡ true
   unfolding good
   means-good g = search (and-both, lt-ltb, eq-eqb) depth 12
 
 -- in a waiting slot, the source is here; in a B slot, B may hold a packet here for that destination
-module _ {N : Net} {taken delivered : ℕ} {x : Item} (g : Good N taken delivered x) where
+module _ {N : Net} {taken delivered : ℕ} {x : Item} (g : GoodItem N taken delivered x) where
   pub waits-at-source : x .place .kind ≡ Waiting → x .packet .source ≡ x .place .node
   waits-at-source e = eqb-true _ _ (rw e at (g .fits))
 
@@ -59,7 +59,7 @@ no-higher Waiting u = omega arith
 no-higher A u = omega arith
 no-higher B u = omega arith
 
-module _ (N : Net) (L : NetLaws N) (taken delivered : ℕ) (x : Item) (g : Good N taken delivered x) (code : ℕ) where
+module _ (N : Net) (L : NetLaws N) (taken delivered : ℕ) (x : Item) (g : GoodItem N taken delivered x) (code : ℕ) where
   laws : RuleLaws N (x .place .node) (x .packet .destination)
   laws = L .rule (x .place .node) (x .packet .destination) (g .here) (g .to)
 
@@ -68,7 +68,7 @@ module _ (N : Net) (L : NetLaws N) (taken delivered : ℕ) (x : Item) (g : Good 
   hopped-fits n A w e = refl
   hopped-fits n B w e = laws .hop-settled code n (settled-in-B g (sym w)) (rw w e)
 
-  hopped-good : (n : ℕ) → offer N x code ≡ Hop n → Good N taken delivered (hopped x n)
+  hopped-good : (n : ℕ) → offer N x code ≡ Hop n → GoodItem N taken delivered (hopped x n)
   hopped-good n e =
       let short : N .distance (x .packet .source) (x .place .node) + N .distance (x .place .node) (x .packet .destination)
       ≡ N .distance (x .packet .source) (x .packet .destination) = omega (arith, g .made, g .left) in
@@ -91,7 +91,7 @@ module _ (N : Net) (L : NetLaws N) (taken delivered : ℕ) (x : Item) (g : Good 
   turned-fits A e = refl
   turned-fits B e = laws .turn-settled (x .place .kind) code e
 
-  turned-good : (k : Kind) → offer N x code ≡ Turn k → Good N taken delivered (turned x k)
+  turned-good : (k : Kind) → offer N x code ≡ Turn k → GoodItem N taken delivered (turned x k)
   turned-good k e = record {
     here = g .here;
     marked = g .marked;
@@ -105,9 +105,9 @@ module _ (N : Net) (L : NetLaws N) (taken delivered : ℕ) (x : Item) (g : Good 
   }
 
   module _ (y : Item) where
-    pub led-good : Led N x code y → Good N taken delivered y
-    led-good (by-hop n e f) = subst (Good N taken delivered) (sym f) (hopped-good n e)
-    led-good (by-turn k e f) = subst (Good N taken delivered) (sym f) (turned-good k e)
+    pub led-good : Led N x code y → GoodItem N taken delivered y
+    led-good (by-hop n e f) = subst (GoodItem N taken delivered) (sym f) (hopped-good n e)
+    led-good (by-turn k e f) = subst (GoodItem N taken delivered) (sym f) (turned-good k e)
 
     pub led-lighter : Led N x code y → weight N y < weight N x
     unfolding weight

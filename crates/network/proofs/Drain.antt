@@ -6,7 +6,7 @@ use mathlib.Core.List.{List·Permᴰ, List·Permᴰ·cons, List·Permᴰ·trans,
 use Prim.Native.Nat.{_+_, _≤_, _<_}
 use native.Mathlib.Omega.{arith}
 use Rattle.network.specs.Net.{Net, NetLaws}
-use Rattle.network.specs.Packet.{Item, Delivery, Good, weight, bound}
+use Rattle.network.specs.Packet.{Item, Delivery, GoodItem, weight, bound}
 use Rattle.network.specs.Contents.{Contents, Passing}
 use Rattle.network.specs.Run.{Answer, unchanged, moved, delivered, Trace, trace, after, Accepted}
 use Rattle.network.specs.Machine.{Stepped, Left, Machine}
@@ -27,7 +27,7 @@ left-lighter N b b′ d s = omega (arith, weight-pos N (s .x), total-perm (weigh
 module _ (N : Net) (L : NetLaws N) (b b′ : Contents) (P : Passing N b) where
   stepped-lighter : Stepped N b b′ → sum N b′ < sum N b
   stepped-lighter s =
-      let g = all-perm (Good N (b .taken) (b .delivered)) (s .was) (P .sound) .0 in
+      let g = all-perm (GoodItem N (b .taken) (b .delivered)) (s .was) (P .sound) .0 in
       omega (
         arith,
         led-lighter N L (b .taken) (b .delivered) (s .x) g (s .code) (s .y) (s .led),
@@ -37,14 +37,14 @@ module _ (N : Net) (L : NetLaws N) (b b′ : Contents) (P : Passing N b) where
 
   stepped-bounds : Stepped N b b′ → List·Permᴰ (bounds N b) (bounds N b′)
   stepped-bounds s =
-      let g = all-perm (Good N (b .taken) (b .delivered)) (s .was) (P .sound) .0 in
+      let g = all-perm (GoodItem N (b .taken) (b .delivered)) (s .was) (P .sound) .0 in
       let same = led-bound N L (b .taken) (b .delivered) (s .x) g (s .code) (s .y) (s .led) in
       List·Permᴰ·trans (map-perm (bound N) (s .was))
       (List·Permᴰ·trans (List·Permᴰ·cons (sym same) (Permᴰ·refl (map (bound N) (s .others)))) (Permᴰ·symm (map-perm (bound N) (s .is))))
 
   left-bounds : (d : Delivery) → Left N b b′ d → List·Permᴰ (bounds N b) (d ∷ bounds N b′)
   left-bounds d s =
-      let g = all-perm (Good N (b .taken) (b .delivered)) (s .was) (P .sound) .0 in
+      let g = all-perm (GoodItem N (b .taken) (b .delivered)) (s .was) (P .sound) .0 in
       let same = handed-bound N L (b .taken) (b .delivered) (s .x) g (s .code) (s .offered) in
       rw (s .given, same) (map-perm (bound N) (s .was))
 

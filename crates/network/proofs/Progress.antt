@@ -13,7 +13,7 @@ use Rattle.network.specs.declared.Place.{Place}
 use Rattle.network.specs.declared.Lead.{Lead}
 use Rattle.network.specs.Lists.{All}
 use Rattle.network.specs.Net.{Net, NetLaws, RuleLaws, at}
-use Rattle.network.specs.Packet.{Item, Good, offer}
+use Rattle.network.specs.Packet.{Item, GoodItem, offer}
 use Rattle.network.specs.Machine.{Vacant, Open, leaves, hops, turns}
 use Rattle.network.proofs.Lists.{all-mem, all-map, best}
 use Rattle.network.proofs.Tests.{clash}
@@ -51,14 +51,14 @@ None k l = All (λ y. y .place .kind ≡ k → ⊥) l
 none-vacant : (l : List Item) (n : ℕ) (k : Kind) → None k l → Vacant l (at n k)
 none-vacant l n k = all-map (λ y u e. u (ap (λ (p : Place). p .kind) e)) l
 
-module _ (N : Net) (L : NetLaws N) (taken delivered : ℕ) (l : List Item) (good : All (Good N taken delivered) l) where
+module _ (N : Net) (L : NetLaws N) (taken delivered : ℕ) (l : List Item) (good : All (GoodItem N taken delivered) l) where
   -- a queue of that kind is vacant where all its like are elsewhere in level
   level-vacant : (k : Kind) (n : ℕ) → All (λ y. y .place .kind ≡ k → N .level (y .place .node) ≡ N .level n → ⊥) l → Vacant l (at n k)
   level-vacant k n = all-map (λ y u e. u (ap (λ (p : Place). p .kind) e) (ap (λ (p : Place). N .level (p .node)) e)) l
 
   module _ (x : Item) (m : List·Memᴰ x l) where
-    fine : Good N taken delivered x
-    fine = all-mem (Good N taken delivered) m good
+    fine : GoodItem N taken delivered x
+    fine = all-mem (GoodItem N taken delivered) m good
 
     laws : RuleLaws N (x .place .node) (x .packet .destination)
     laws = L .rule (x .place .node) (x .packet .destination) (fine .here) (fine .to)

@@ -9,7 +9,7 @@ use native.Mathlib.Omega.{arith}
 use native.Mathlib.Nat.{add-zero}
 use Rattle.network.specs.declared.Place.{Place}
 use Rattle.network.specs.Net.{Net, NetLaws, at}
-use Rattle.network.specs.Packet.{Packet, Item, Delivery, Good}
+use Rattle.network.specs.Packet.{Packet, Item, Delivery, GoodItem}
 use Rattle.network.specs.Contents.{Passing}
 use Rattle.network.specs.View.{Slot, empty, held, Layout, LayoutLaws, View, itemAt, seen, itemsOf, contents}
 use Rattle.network.specs.Run.{Answer, delivered, trace}
@@ -113,8 +113,8 @@ module _ (N : Net) (L : NetLaws N) (Y : Layout) (K : LayoutLaws N Y) {S C : Type
   open-room : (v : View) → Passing N (contents Y v) → (x : Item) (code : ℕ) → List·Memᴰ x (itemsOf Y v) → Open N (Vacant (itemsOf Y v)) x code → Open N (HasRoom Y v) x code
   open-room v P x code m o = go o
     where
-      g : Good N (v .taken) (v .delivered) x
-      g = all-mem (Good N (v .taken) (v .delivered)) m (P .sound)
+      g : GoodItem N (v .taken) (v .delivered) x
+      g = all-mem (GoodItem N (v .taken) (v .delivered)) m (P .sound)
 
       go : Open N (Vacant (itemsOf Y v)) x code → Open N (HasRoom Y v) x code
       go (leaves e) = leaves e

@@ -6,7 +6,7 @@ use Prim.Native.Nat.{ℕ, _+_}
 use lib.ListN.{length}
 use Rattle.network.specs.Lists.{All, Distinct}
 use Rattle.network.specs.Net.{Net}
-use Rattle.network.specs.Packet.{Item, Good}
+use Rattle.network.specs.Packet.{Item, GoodItem}
 
 pub record Contents : Type 0 where
   pub items : List Item
@@ -18,6 +18,6 @@ serialOf x = x .packet .serial
 
 -- every packet is good, no two have one serial, and taken less delivered is the number held
 pub record Passing (N : Net) (b : Contents) : Type 0 where
-  pub sound : All (Good N (b .taken) (b .delivered)) (b .items)
+  pub sound : All (GoodItem N (b .taken) (b .delivered)) (b .items)
   pub distinct : Distinct (map serialOf (b .items))
   pub counted : b .taken ≡ b .delivered + length (b .items)

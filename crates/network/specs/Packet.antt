@@ -49,7 +49,7 @@ good N taken delivered x =
     && fitsKind N (x .place .kind) here p))))))
 
 -- what that means, at a node of the network
-pub record Good (N : Net) (taken delivered : ℕ) (x : Item) : Type 0 where
+pub record GoodItem (N : Net) (taken delivered : ℕ) (x : Item) : Type 0 where
   pub here : N .valid (x .place .node) ≡ true
   pub marked : x .packet .mark ≡ 1
   pub from : N .valid (x .packet .source) ≡ true

@@ -11,14 +11,14 @@ use Rattle.router.specs.Move.{movedSlice}
 use Rattle.promises.specs.Conditions.{EmptyAt, leadIn}
 use Rattle.calls.specs.Router.{ours}
 use Rattle.promises.specs.Demand1.{Demand1}
-use Rattle.promises.specs.Demand2.{Step}
+use Rattle.promises.specs.Demand2.{OneStep}
 use Rattle.promises.proofs.Refusing.{clear-refuses, take-refuses}
 use Rattle.promises.proofs.NamedSlot.{move-refuses, read-refuses}
 use Rattle.promises.proofs.Surveying.{check-refuses, find-refuses, copy-refuses}
 use Rattle.promises.proofs.Behind.{all-behind, clear-behind}
 use Rattle.promises.proofs.Demand2.{demand-2}
 
-step-empties : (s : List ℕ) (slot : ℕ) (lead : Lead) (o : Outcome Moved (List ℕ)) → Step s slot lead o → EmptyAt (o .bytes) slot
+step-empties : (s : List ℕ) (slot : ℕ) (lead : Lead) (o : Outcome Moved (List ℕ)) → OneStep s slot lead o → EmptyAt (o .bytes) slot
 step-empties s slot (Hop n) o a = a .gone
 step-empties s slot (Turn k) o a = a .gone
 step-empties s slot Out o a = a .gone

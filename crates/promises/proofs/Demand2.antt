@@ -18,12 +18,13 @@ use Rattle.router.proofs.MoveLaws.{Granted, due-granted, granted-due}
 use Rattle.survey.specs.declared.copying.Copied.{Copied}
 use Rattle.survey.specs.declared.copying.Copied.the-variants.{Done, BadTrailer, FaultAt, WrongLength}
 use Rattle.survey.specs.Copy.{veiled, copiedSlice, copyAnswer}
-use Rattle.survey.proofs.CopyLaws.{Made, copied-made, length-veiled, veiled-slot, veiled-end}
+use Rattle.survey.proofs.CopyLaws.{Made, copied-made}
+use Rattle.survey.proofs.ShownLaws.{length-veiled, veiled-slot, veiled-end}
 use Rattle.survey.proofs.Secrecy.{secret}
 use Rattle.calls.specs.Slices.{Bytes, headIn, boardIn, tableIn, GoodIn, slotsIn, placeIn}
 use Rattle.promises.specs.Conditions.{leadIn}
 use Rattle.calls.specs.Router.{ours}
-use Rattle.promises.specs.Demand2.{GoodPacket, Offered, Step, Shows, Demand2}
+use Rattle.promises.specs.Demand2.{GoodPacket, Offered, OneStep, Shows, Demand2}
 use Rattle.promises.proofs.Reading.{head-is, table-is, good-in, good-is}
 use Rattle.promises.proofs.Steps.{offered-known}
 use Rattle.promises.proofs.Checked.{taken-small}
@@ -64,7 +65,7 @@ module _ (s : List ℕ) (g : GoodIn s) where
           free = room-free s g (placeIn s k) (leadOf (boardIn s) (tableIn s) k code) (rw (lead-is s k code) at (o .room));
         }
 
-one-step : (s : List ℕ) → Bytes s → (k code : ℕ) → movedSlice s k code .answer .number ≡ 0 → Step s k (leadIn s k code) (movedSlice s k code)
+one-step : (s : List ℕ) → Bytes s → (k code : ℕ) → movedSlice s k code .answer .number ≡ 0 → OneStep s k (leadIn s k code) (movedSlice s k code)
 one-step s b k code z =
     let g = accepted-trailer s k code z in
     rw (lead-is s k code)

@@ -6,7 +6,6 @@ use mathlib.Core.Path.{_≡_, refl, sym, ap, subst, _∙_}
 use mathlib.Core.Logic.{inl, inr, _↔_}
 use mathlib.Core.Bool.{Bool, true, false, not, cond}
 use mathlib.Core.List.{List, [], _∷_}
-use native.Mathlib.Decide.{ℕ-discrete}
 use Rattle.network.proofs.Tests.{clash}
 use Rattle.table.specs.declared.trailer.Head.{Head}
 use Rattle.table.specs.declared.trailer.Headed.{Headed}
@@ -14,7 +13,7 @@ use Rattle.table.specs.declared.trailer.Headed.the-variants.{Good, Bad}
 use Rattle.table.specs.Refusals.{Row, firstDue, trailer-not-good}
 use Rattle.table.specs.Trailer.{trailerOf}
 use Rattle.table.specs.Calls.{Outcome, answered, onTable}
-use Rattle.table.proofs.CallLaws.{answered-done, answered-refused, on-table-bad, on-table-good}
+use Rattle.table.proofs.CallLaws.{answered-number, on-table-bad, on-table-good}
 use Rattle.calls.specs.Slices.{headIn, tableIn, GoodIn}
 use Rattle.promises.specs.Demand1.{Grounds, end, ground, First, Refuses}
 use Rattle.promises.proofs.Reading.{good-is, good-in, bad-in}
@@ -82,14 +81,8 @@ module _ {A : Type 0} (number : A → ℕ) (refusal : ℕ → A) (named : (n : �
 
   -- of one that answers by its rows
   module _ {B : Type 0} (rows : List Row) (lent : B) (done : Outcome A B) (zero : number (done .answer) ≡ 0) where
-    pub answered-number : number (answered rows refusal lent done .answer) ≡ firstDue rows
-    answered-number = elim (ℕ-discrete (firstDue rows) 0) [
-      | yes e ↦ ap of (answered-done rows refusal lent done e) ∙ zero ∙ sym e
-      | no u ↦ ap of (answered-refused rows refusal lent done refl u) ∙ named (firstDue rows)
-    ]
-
     pub first-answered : (g : Grounds) → Tells rows g → First g (number (answered rows refusal lent done .answer))
-    first-answered g t = subst (First g) (sym answered-number) (first-due rows g t)
+    first-answered g t = subst (First g) (sym (answered-number number refusal named rows lent done (λ e. zero))) (first-due rows g t)
 
   -- of one on the table of a slice: refusal 1 comes first
   pub first-on-table : (s : List ℕ) (f : Head → List ℕ → Outcome A (List ℕ)) (rest : Grounds)

@@ -19,15 +19,15 @@ use Rattle.promises.proofs.Demand3.{held-bounds}
 use Rattle.promises.proofs.Held.{recordsIn, record-has}
 use Rattle.promises.proofs.Counted.{all-with, all-parts}
 use Rattle.promises.proofs.Hopping.{packets}
-use Rattle.promises.proofs.Keeping.{Spans, Kept, fresh-kept, call-kept}
+use Rattle.promises.proofs.Keeping.{Spans, Accounted, fresh-kept, call-kept}
 
-ledger-kept : (calls : List Call) → All Handed calls → (r : Ledger) → Kept r → Kept (ledger ours r calls)
+ledger-kept : (calls : List Call) → All Handed calls → (r : Ledger) → Accounted r → Accounted (ledger ours r calls)
 ledger-kept [] h r k = k
 ledger-kept (c ∷ calls) h r k = ledger-kept calls (h .1) (entered ours c r) (call-kept r k c (h .0))
 
 -- ---- what is kept is what is promised
 
-module _ (r : Ledger) (k : Kept r) where
+module _ (r : Ledger) (k : Accounted r) where
   good-last : GoodIn (r .last)
   good-last = passing-good (r .last) (k .passes)
 

@@ -2,7 +2,7 @@
 -- router keep it so.
 -- Assumes nothing.
 use Prim.Native.Nat.{ℕ, suc, _+_, _<_, _^_}
-use mathlib.Core.Path.{_≡_, refl, sym, ap, subst, _∙_}
+use mathlib.Core.Path.{_≡_, refl, sym, ap, _∙_}
 use mathlib.Core.Bool.{Bool, true, false, cond, _&&_}
 use mathlib.Core.List.{List, [], _∷_, _++_, map}
 use mathlib.Core.List.{List·Permᴰ, List·Permᴰ·trans, Permᴰ·symm, Permᴰ·append-left, Permᴰ·middle}
@@ -36,7 +36,7 @@ use Rattle.calls.specs.Slices.{Bytes, headIn, boardIn, tableIn, GoodIn, slotsIn
 use Rattle.promises.specs.Conditions.{leadIn}
 use Rattle.calls.specs.Router.{ours}
 use Rattle.calls.specs.Calls.{moves, Given, givenBy}
-use Rattle.promises.specs.Demand2.{GoodPacket, Goes, Leaves, Step}
+use Rattle.promises.specs.Demand2.{GoodPacket, Goes, Leaves, OneStep}
 use Rattle.promises.specs.Answers.{newPacket, Enters}
 use Rattle.promises.specs.History.{hopBy, hoppedBy}
 use Rattle.promises.proofs.Records.{set-same}
@@ -124,7 +124,7 @@ module _ (s : List ℕ) (b : Bytes s) (c : checkedSlice s ≡ Passes) (slot code
     has-left g is e =
         rw (taken-same, is) (recorded-perm (headIn s .taken) hopped (among given (left-records s good slot p o slots-same e)) h)
 
-    by-lead : (g : Given) → g .packet ≡ o .answer .packet → (lead : Lead) → leadIn s slot code ≡ lead → Step s slot lead o → (a : Bool) → eqb code delivery ≡ a
+    by-lead : (g : Given) → g .packet ≡ o .answer .packet → (lead : Lead) → leadIn s slot code ≡ lead → OneStep s slot lead o → (a : Bool) → eqb code delivery ≡ a
         → Now (hopBy lead (serialOf v)) (cond (a && true) (g ∷ []) [])
     by-lead g is (Hop n) f e true w = let q = leads-out w (Hop n) f refl in clash cc
     by-lead g is (Hop n) f e false w = has-hopped _ e

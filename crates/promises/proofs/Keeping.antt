@@ -48,7 +48,7 @@ use Rattle.promises.proofs.Hopping.{packets, taking-recorded, move-reco
 abbrev pub Spans : Net → Given → Type 0
 Spans N g = packetOf (g .packet) .hops ≡ N .distance (packetOf (g .packet) .source) (packetOf (g .packet) .destination)
 
-pub record Kept (r : Ledger) : Type 0 where
+pub record Accounted (r : Ledger) : Type 0 where
   pub bytes : Bytes (r .last)
   pub passes : checkedSlice (r .last) ≡ Passes
   pub taken : headIn (r .last) .taken ≡ length (r .taken)
@@ -71,7 +71,7 @@ module _ (s : List ℕ) (b : Bytes s) (board : Board) (z : clearedSlice s board 
   none : NothingHeld u
   none k l = fresh .slots k (subst (λ (h : Head). k < layoutOf (h .board) .size) (fresh .head) l)
 
-  pub fresh-kept : Kept (opened u)
+  pub fresh-kept : Accounted (opened u)
   fresh-kept =
       let taken : headIn u .taken ≡ 0 = ap (λ (h : Head). h .taken) (fresh .head) in
       let empty = no-records u good none in
@@ -84,7 +84,7 @@ module _ (s : List ℕ) (b : Bytes s) (board : Board) (z : clearedSlice s board 
         hops = rw (taken, empty) none-recorded;
       }
 
-module _ (r : Ledger) (k : Kept r) where
+module _ (r : Ledger) (k : Accounted r) where
   abbrev s : List ℕ
   s = r .last
 
@@ -96,7 +96,7 @@ module _ (r : Ledger) (k : Kept r) where
   abbrev Hops : Ledger → Type 0
   Hops q = Recorded (headIn (q .last) .taken) (q .hopped) (packets (q .given) ++ recordsIn (q .last))
 
-  quiet-kept : (c : Call) → Handed c → Quiet ours s c → Hops (after c) → Kept (after c)
+  quiet-kept : (c : Call) → Handed c → Quiet ours s c → Hops (after c) → Accounted (after c)
   quiet-kept c h q hops =
       let d = demand-3 .drains s (k .bytes) (ap (λ x. checkAnswer x .number) (k .passes)) (c ∷ []) (q, tt) in
       let gone = givenBy ours s c in
@@ -146,7 +146,7 @@ module _ (r : Ledger) (k : Kept r) where
       nets-same : netIn (o .bytes) ≡ netIn s
       nets-same = ap (λ (h : Head). netOf (h .board)) (head-is (o .bytes) (stands .head))
 
-      taken-kept : Kept record { last = o .bytes; taken = new ∷ r .taken; given = r .given; hopped = r .hopped }
+      taken-kept : Accounted record { last = o .bytes; taken = new ∷ r .taken; given = r .given; hopped = r .hopped }
       taken-kept =
           let bounds = entered-bounds s good-now source destination payload o slots-same enters nets-same in
           let taken : headIn (o .bytes) .taken ≡ suc (headIn s .taken) = omega (arith, ap (λ (h : Head). h .taken) (head-is (o .bytes) (stands .head))) in
@@ -161,10 +161,10 @@ module _ (r : Ledger) (k : Kept r) where
                 (taking-recorded s good-now (standing .small) source destination payload o slots-same enters (r .given) (r .hopped) (k .hops));
           }
 
-    take-kept : Kept (entered ours (takes source destination payload) r)
+    take-kept : Accounted (entered ours (takes source destination payload) r)
     take-kept = go (eqb (o .answer .number) 0) refl
       where
-        go : (y : Bool) → eqb (o .answer .number) 0 ≡ y → Kept record { last = o .bytes; taken = cond y (new ∷ []) [] ++ r .taken; given = r .given; hopped = r .hopped }
+        go : (y : Bool) → eqb (o .answer .number) 0 ≡ y → Accounted record { last = o .bytes; taken = cond y (new ∷ []) [] ++ r .taken; given = r .given; hopped = r .hopped }
         go true e = taken-kept (eqb-true _ _ e)
         go false e =
             let u = eqb-false _ _ e in
@@ -173,21 +173,21 @@ module _ (r : Ledger) (k : Kept r) where
 
   -- ---- any call
 
-  clear-kept : (board : Board) → Kept (entered ours (clears board) r)
+  clear-kept : (board : Board) → Accounted (entered ours (clears board) r)
   clear-kept board = go (eqb (clearedSlice s board .answer) 0) refl
     where
       now : List ℕ
       now = clearedSlice s board .bytes
 
       go : (y : Bool) → eqb (clearedSlice s board .answer) 0 ≡ y
-          → Kept record { last = now; taken = cond y (opened s) r .taken; given = cond y (opened s) r .given; hopped = cond y (opened s) r .hopped }
+          → Accounted record { last = now; taken = cond y (opened s) r .taken; given = cond y (opened s) r .given; hopped = cond y (opened s) r .hopped }
       go true e = fresh-kept s (k .bytes) board (eqb-true _ _ e)
       go false e =
           let u = eqb-false _ _ e in
           quiet-kept (clears board) tt u
           (hops-same now (ap (λ (w : Outcome ℕ (List ℕ)). w .bytes) (clear-refused s board u)))
 
-  pub call-kept : (c : Call) → Handed c → Kept (entered ours c r)
+  pub call-kept : (c : Call) → Handed c → Accounted (entered ours c r)
   call-kept (clears board) h = clear-kept board
   call-kept (takes source destination payload) h = take-kept source destination payload (h .0) (h .1)
   call-kept (moves slot code) h = quiet-kept (moves slot code) tt tt (move-recorded s (k .bytes) (k .passes) slot code (r .given) (r .hopped) (k .hops))

@@ -8,7 +8,6 @@ use lib.ListN.{length, take, drop, length-append}
 use lib.Seq.{drop-at, take-at}
 use Rattle.network.proofs.Tests.{clash}
 use Rattle.table.specs.declared.trailer.Head.{Head}
-use Rattle.table.specs.declared.trailer.Headed.{Headed}
 use Rattle.table.specs.declared.trailer.Headed.the-variants.{Good, Bad}
 use Rattle.table.specs.Trailer.{trailerOf, Sized}
 use Rattle.table.proofs.TrailerLaws.{trailer-good, good-trailer, trailer-after, trailer-sized}
@@ -38,13 +37,6 @@ good-is s g = good-trailer g
 
 pub bad-in : (s : List ℕ) → trailerOf s ≡ Bad → GoodIn s → ⊥
 bad-in s e g = let f = good-is s g in clash cc
-
-pub is-bad : (s : List ℕ) → (GoodIn s → ⊥) → trailerOf s ≡ Bad
-is-bad s n = go (trailerOf s) refl
-  where
-    go : (t : Headed) → trailerOf s ≡ t → t ≡ Bad
-    go Bad e = refl
-    go (Good h) e = absurd (n (good-in s e))
 
 -- ---- a table behind any bytes
 

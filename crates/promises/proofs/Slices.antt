@@ -10,7 +10,7 @@ use Rattle.network.specs.declared.Place.{Place}
 use Rattle.network.specs.declared.Lead.{Lead}
 use Rattle.network.specs.declared.Lead.the-variants.{Hop, Turn, Out, NotOffered}
 use Rattle.network.specs.Net.{delivery}
-use Rattle.network.specs.Packet.{Packet, Delivery, Good as GoodPacket, handed}
+use Rattle.network.specs.Packet.{Packet, Delivery, GoodItem, handed}
 use Rattle.network.specs.View.{held, View, itemAt, contents}
 use Rattle.network.specs.Contents.{Passing}
 use Rattle.network.specs.Run.{moved, delivered, Accepted, trace}
@@ -171,7 +171,7 @@ module _ (h₀ : Head) (small : h₀ .taken < 2 ^ 32) where
       let table = drop (length s - g .size) s in
       let there : viewOf g table .at i ≡ held p = rw (table-is s (f .1)) at e in
       let packet = slot-says (slotAt table i) p there .1 in
-      let fine = all-mem (GoodPacket (netOf (g .board)) (see s .taken) (see s .delivered)) (held-mem (layoutOf (g .board)) (see s) i p l e) (P .sound) in
+      let fine = all-mem (GoodItem (netOf (g .board)) (see s .taken) (see s .delivered)) (held-mem (layoutOf (g .board)) (see s) i p l e) (P .sound) in
       let good-there : goodAt g table i ≡ true = rw (packet) (means-good (netOf (g .board)) (g .taken) (g .delivered) (itemAt (layoutOf (g .board)) i p) (rw (head-is s (f .1)) at fine)) in
       let z = open-accepted g table i p code l there good-there (rw (table-is s (f .1)) at o) in
       accepted-by-number s record { slot = i; code = code } (movedSlice s i code) (number-is s g (f .1) i code ∙ z)

@@ -9,7 +9,7 @@ use Rattle.network.specs.declared.Place.{Place}
 use Rattle.network.specs.declared.Lead.{Lead}
 use Rattle.network.specs.declared.Lead.the-variants.{Hop, Turn, Out, NotOffered}
 use Rattle.network.specs.Net.{at}
-use Rattle.network.specs.Packet.{Good}
+use Rattle.network.specs.Packet.{GoodItem}
 use Rattle.slots.specs.Slots.{emptySlot}
 use Rattle.table.specs.Board.{publishedOn}
 use Rattle.calls.specs.Slices.{headIn, boardIn, netIn, slotsIn, slotIn, placeIn, packetIn, heldIn}
@@ -21,9 +21,9 @@ EmptyAt s k = slotIn s k ≡ emptySlot
 abbrev pub HeldAt : List ℕ → ℕ → Type 0
 HeldAt s k = slotIn s k ≢ emptySlot
 
--- a held slot is good if all of `Good` is true; otherwise it is spoiled
+-- a held slot is good if all of `GoodItem` is true; otherwise it is spoiled
 abbrev pub GoodAt : List ℕ → ℕ → Type 0
-GoodAt s k = Good (netIn s) (headIn s .taken) (headIn s .delivered) (packetIn s k)
+GoodAt s k = GoodItem (netIn s) (headIn s .taken) (headIn s .delivered) (packetIn s k)
 
 abbrev pub SpoiledAt : List ℕ → ℕ → Type 0
 SpoiledAt s k = HeldAt s k × (GoodAt s k → ⊥)

@@ -60,11 +60,11 @@ pub record Leaves (s : List ℕ) (slot : ℕ) (o : Outcome Moved (List ℕ)) : T
   pub last-bytes : drop 12 (last16 (o .bytes)) ≡ drop 12 (last16 s)
 
 -- the one step that a lead tells: a hop adds one to the hops
-abbrev pub Step : List ℕ → ℕ → Lead → Outcome Moved (List ℕ) → Type 0
-Step s slot (Hop n) o = Goes s slot (at n (placeIn s slot .kind)) 1 o
-Step s slot (Turn k) o = Goes s slot (at (placeIn s slot .node) k) 0 o
-Step s slot Out o = Leaves s slot o
-Step s slot NotOffered o = ⊥
+abbrev pub OneStep : List ℕ → ℕ → Lead → Outcome Moved (List ℕ) → Type 0
+OneStep s slot (Hop n) o = Goes s slot (at n (placeIn s slot .kind)) 1 o
+OneStep s slot (Turn k) o = Goes s slot (at (placeIn s slot .node) k) 0 o
+OneStep s slot Out o = Leaves s slot o
+OneStep s slot NotOffered o = ⊥
 
 -- a copy for outsiders: every byte of the table but the payloads, which are zeros
 pub record Shows (s copy : List ℕ) : Type 0 where
@@ -76,7 +76,7 @@ pub record Demand2 (R : Router) : Type 0 where
   pub exactly : (s : List ℕ) → Bytes s → (slot code : ℕ) → GoodPacket s slot → (R .make-move s slot code .answer .number ≡ 0) ↔ Offered s slot code
   pub only : (s : List ℕ) → Bytes s → (slot code : ℕ) → R .make-move s slot code .answer .number ≡ 0 → GoodPacket s slot × IsCode s code
   pub step : (s : List ℕ) → Bytes s → (slot code : ℕ) → R .make-move s slot code .answer .number ≡ 0
-      → Step s slot (leadIn s slot code) (R .make-move s slot code)
+      → OneStep s slot (leadIn s slot code) (R .make-move s slot code)
   pub copy : (s out : List ℕ) → Bytes s → R .copy-outward s out .answer .number ≡ 0 → Shows s (R .copy-outward s out .bytes .second)
   -- two tables that differ only in payloads of slots held in both and in bytes before the table give the same answer and copy
   pub secret : (s u out : List ℕ) → Alike s u

@@ -11,7 +11,7 @@ use borrow.Author.Tests.{eq-eqb}
 use Rattle.network.specs.declared.Kind.the-variants.{Waiting}
 use Rattle.network.specs.declared.Lowest.the-variants.{At}
 use Rattle.network.specs.Net.{at}
-use Rattle.network.specs.Packet.{Packet, Item, Good as GoodPacket}
+use Rattle.network.specs.Packet.{Packet, Item, GoodItem}
 use Rattle.network.specs.View.{held, itemAt}
 use Rattle.network.specs.Table.{Entered}
 use Rattle.slots.specs.Slots.{slotAt, withSlot}
@@ -39,7 +39,7 @@ newPacket source destination serial payload =
 
 pub new-good : (b : Board) (source destination serial delivered : ℕ) (payload : List ℕ) → netOf b .valid source ≡ true → netOf b .valid destination ≡ true
     → delivered ≤ serial
-    → GoodPacket (netOf b) (suc serial) delivered (record { place = at source Waiting; packet = newPacket source destination serial payload })
+    → GoodItem (netOf b) (suc serial) delivered (record { place = at source Waiting; packet = newPacket source destination serial payload })
 new-good b source destination serial delivered payload from to due = record {
   here = from;
   marked = refl;

@@ -1,11 +1,10 @@
 -- When a move is granted, and that its call then does where the rule leads, and else refuses with the number that is due.
 -- Assumes nothing.
 use Prim.Native.Nat.{ℕ}
-use mathlib.Core.Path.{_≡_, refl, sym, ap, _∙_}
+use mathlib.Core.Path.{_≡_, refl, ap, _∙_}
 use mathlib.Core.Logic.{_≢_}
-use mathlib.Core.Bool.{Bool, true, false, not}
+use mathlib.Core.Bool.{true, false, not}
 use mathlib.Core.List.{List}
-use native.Mathlib.Decide.{ℕ-discrete}
 use borrow.Author.Tests.{not-false}
 use Rattle.network.specs.declared.Kind.{Kind}
 use Rattle.network.specs.declared.Lowest.the-variants.{At}
@@ -24,7 +23,7 @@ use Rattle.table.specs.Layout.{layoutOf}
 use Rattle.table.specs.Queues.{roomAt}
 use Rattle.table.specs.Calls.{Outcome, outcome}
 use Rattle.table.proofs.RefusalLaws.{passed}
-use Rattle.table.proofs.CallLaws.{answered-done, answered-refused}
+use Rattle.table.proofs.CallLaws.{answered-done, answered-refused, answered-number}
 use Rattle.router.specs.declared.moving.Moved.{Moved}
 use Rattle.router.specs.Move.{refusal, leadOf, barred, blocked, leadRows, moveRows, moveDue, gone, handedOut, ledOn, movedIn}
 use Rattle.router.proofs.NamedLaws.{Named, none-named, named-none}
@@ -77,12 +76,9 @@ module _ (h : Head) (t : List ℕ) (k code : ℕ) where
 
   -- the answer's number is the one that is due
   pub moved-number : movedIn h t k code .answer .number ≡ moveDue h t k code
-  unfolding gone handedOut
-  moved-number = elim (ℕ-discrete (moveDue h t k code) 0) [
-    | yes z ↦ ap (λ (o : Outcome Moved (List ℕ)). o .answer .number) (moved-granted z)
-        ∙ by (leadOf (h .board) t k code) (due-granted z .offered) ∙ sym z
-    | no z ↦ ap (λ (o : Outcome Moved (List ℕ)). o .answer .number) (moved-refused refl z)
-  ]
+  unfolding movedIn moveDue gone handedOut
+  moved-number =
+      answered-number (λ a. a .number) refusal (λ n. refl) (moveRows h t k code) t done (λ e. by (leadOf (h .board) t k code) (due-granted e .offered))
     where
       by : (lead : Lead) → barred lead ≡ false → ledOn h t k (layoutOf (h .board) .placeOf k) lead .answer .number ≡ 0
       by (Hop n) e = refl

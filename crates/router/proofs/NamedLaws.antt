@@ -8,7 +8,7 @@ use mathlib.Core.List.{List, [], _++_}
 use borrow.Author.Tests.{leb-false, lt-leb, not-false}
 use Rattle.network.specs.declared.Lead.{Lead}
 use Rattle.network.specs.declared.Lead.the-variants.{Hop, Turn, Out, NotOffered}
-use Rattle.network.specs.Packet.{Good}
+use Rattle.network.specs.Packet.{GoodItem}
 use Rattle.network.proofs.Tests.{cond-false}
 use Rattle.table.specs.declared.trailer.Head.{Head}
 use Rattle.table.specs.Refusals.{Row, firstDue}
@@ -47,7 +47,7 @@ module _ (h : Head) (t : List ℕ) (k : ℕ) where
   named-due n = named-none [] n
 
 module _ {h : Head} {t : List ℕ} {k : ℕ} (n : Named h t k) (g : GoodBoard (h .board)) where
-  pub named-good : Good (netOf (h .board)) (h .taken) (h .delivered) (itemIn (h .board) t k)
+  pub named-good : GoodItem (netOf (h .board)) (h .taken) (h .delivered) (itemIn (h .board) t k)
   named-good = good-here h t k (n .good) g (n .inside)
 
   pub targets : (code : ℕ) → Targets (netOf (h .board)) (layoutOf (h .board) .placeOf k) (leadOf (h .board) t k code)

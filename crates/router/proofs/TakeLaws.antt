@@ -3,7 +3,7 @@
 use Prim.Native.Nat.{ℕ, _<_, _^_}
 use mathlib.Core.Path.{_≡_, refl, sym, ap, _∙_}
 use mathlib.Core.Logic.{_≢_}
-use mathlib.Core.Bool.{true, false, not}
+use mathlib.Core.Bool.{true, not}
 use mathlib.Core.List.{List}
 use native.Mathlib.Omega.{arith}
 use native.Mathlib.Decide.{ℕ-discrete}
@@ -24,11 +24,10 @@ use Rattle.table.specs.Refusals.{firstDue}
 use Rattle.table.specs.Board.{GoodBoard, netOf}
 use Rattle.table.specs.Layout.{layoutOf}
 use Rattle.table.specs.Packets.{packetOf}
-use Rattle.table.specs.Calls.{Outcome, outcome}
+use Rattle.table.specs.Calls.{outcome}
 use Rattle.table.proofs.QueueLaws.{room-within}
 use Rattle.table.proofs.RefusalLaws.{passed, accepted-by, refused-by}
 use Rattle.table.proofs.CallLaws.{answered-done, answered-refused}
-use Rattle.router.specs.declared.taking.Taken.{Taken}
 use Rattle.router.specs.declared.verdict.Verdict.{Verdict}
 use Rattle.router.specs.TakeIn.{refusal, waitingRoom, takeRows, newRecord, tookIn, takenIn}
 use Rattle.router.specs.Verdicts.{refusedBy, into, takeVerdict}
@@ -51,11 +50,6 @@ module _ (h : Head) (t : List ℕ) (source destination : ℕ) where
       let c = passed 6 _ _ (b .1) in
       let d = passed 5 _ _ (c .1) in
       record { source-on = not-false _ (a .0); destination-on = not-false _ (b .0); more = eqb-false _ _ (c .0); room = not-false _ (d .0) }
-
-  pub welcome-due : Welcome h t source destination → takeDue ≡ 0
-  welcome-due w =
-      cond-false _ _ (ap not (w .source-on)) ∙ cond-false _ _ (ap not (w .destination-on)) ∙ cond-false _ _ (ne-eqb _ _ (w .more))
-      ∙ cond-false _ _ (ap not (w .room))
 
   -- where all serials are given out the answer is 7, whatever the waiting slot holds
   pub all-given-out : netOf (h .board) .valid source ≡ true → netOf (h .board) .valid destination ≡ true → h .taken ≡ 4294967295 → takeDue ≡ 7

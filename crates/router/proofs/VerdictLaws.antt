@@ -3,7 +3,7 @@
 use Prim.Native.Nat.{ℕ, _+_, _<_, _≤_}
 use mathlib.Core.Path.{_≡_, refl, sym, ap, _∙_}
 use mathlib.Core.Logic.{_≢_}
-use mathlib.Core.Bool.{Bool, true, false, cond, not}
+use mathlib.Core.Bool.{true, false, cond, not}
 use mathlib.Core.List.{List}
 use native.Mathlib.Omega.{arith}
 use native.Mathlib.Decide.{ℕ-discrete}
@@ -31,8 +31,8 @@ use Rattle.table.proofs.PacketLaws.{good-hops}
 use Rattle.table.proofs.QueueLaws.{room-lowest, room-within}
 use Rattle.router.specs.declared.moving.Moved.{Moved}
 use Rattle.router.specs.declared.verdict.Verdict.{Verdict}
-use Rattle.router.specs.Move.{refusal, slotRows, leadOf, barred, blocked, leadRows, moveRows, moveDue, gone, handedOut, ledOn, movedIn}
-use Rattle.router.specs.Verdicts.{refusedBy, into, ahead, slotDue, judged, moveVerdict, Targets}
+use Rattle.router.specs.Move.{refusal, slotRows, leadOf, barred, blocked, leadRows, moveDue, gone, handedOut, ledOn, movedIn}
+use Rattle.router.specs.Verdicts.{refusedBy, into, ahead, slotDue, moveVerdict, Targets}
 use Rattle.router.proofs.NamedLaws.{Named, targets}
 use Rattle.router.proofs.MoveLaws.{Granted, onward, past-slot, due-granted, moved-refused, moved-granted}
 

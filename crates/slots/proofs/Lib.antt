@@ -3,3 +3,4 @@ pub mod Numbers
 pub mod SlotLaws
 pub mod ZeroLaws
 pub mod ByteLaws
+pub mod NumberLaws

@@ -8,7 +8,7 @@ use native.Mathlib.Nat.{add-zero, div-div-eq-div-mul}
 use lib.ListN.{length, getD, take, drop, List·getD-append}
 use lib.Seq.{getD-drop, getD-take, length-take-le}
 use Rattle.slots.specs.Bytes.{part, put, le32, bytes32}
-use Rattle.slots.proofs.Parts.{drop-put, drop-put-at, part-put-after, part-put-before}
+use Rattle.slots.proofs.Parts.{drop-put-at, part-put-after, part-put-before}
 
 -- ---- a byte of a list with bytes put over its own
 
@@ -19,12 +19,6 @@ pub getD-put-in : (s : List ℕ) (at : ℕ) (v : List ℕ) (i : ℕ) → at ≤ 
     → getD (put s at v) (at + i) 0 ≡ getD v i 0
 getD-put-in s at v i h k =
     sym (getD-drop at (put s at v) i 0) ∙ ap (λ (l : List ℕ). getD l i 0) (drop-put-at s at v h) ∙ List·getD-append v _ 0 i k
-
-pub getD-put-after : (s : List ℕ) (at : ℕ) (v : List ℕ) (i : ℕ) → at ≤ length s → at + length v ≤ i
-    → getD (put s at v) i 0 ≡ getD s i 0
-getD-put-after s at v i h k =
-    let first : (l : List ℕ) → getD (drop i l) 0 0 ≡ getD l i 0 = λ l. rw add-zero at (getD-drop i l 0 0) in
-    sym (first (put s at v)) ∙ ap (λ (l : List ℕ). getD l 0 0) (drop-put s at v i h k) ∙ first s
 
 -- ---- four bytes
 

@@ -90,9 +90,6 @@ part-put-before s at v b n h k =
     ∙ part-take s at b n k
 
 -- what lies there already changes nothing
-pub put-part-same : (s : List ℕ) (at n : ℕ) → at + n ≤ length s → put s at (part s at n) ≡ s
-put-part-same s at n h = rw (length-part s at n h, take-append-drop n (drop at s), take-append-drop at s)
-
 put-append : (p s : List ℕ) (b : ℕ) (w : List ℕ) → put (p ++ s) (length p + b) w ≡ p ++ put s b w
 put-append p s b w = rw (take-append-add, drop-append-add, append-assoc)
 
@@ -104,31 +101,6 @@ put-inside s a b w h =
 
 pub drop-put-inside : (s : List ℕ) (a b : ℕ) (w : List ℕ) → a ≤ length s → drop a (put s (a + b) w) ≡ put (drop a s) b w
 drop-put-inside s a b w h = ap (drop a) (put-inside s a b w h) ∙ drop-at (take a s) _ a (length-take-le a s h)
-
-put-comm-add : (s : List ℕ) (a : ℕ) (v : List ℕ) (c : ℕ) (w : List ℕ) → a + (length v + (c + length w)) ≤ length s
-    → put (put s a v) (a + (length v + c)) w ≡ put (put s (a + (length v + c)) w) a v
-put-comm-add s a v c w h =
-    let x : List ℕ = drop (length v) (drop a s) in
-    let ha : a ≤ length s = omega arith in
-    let hp : a ≤ length (put s a v) = rw (length-put s a v (omega arith)) (omega arith) in
-    let aa : a ≤ a = omega arith in
-    let hv : length v ≤ length (drop a s) = rw length-drop (omega arith) in
-    let left : put (put s a v) (a + (length v + c)) w ≡ take a s ++ (v ++ put x c w) =
-    rw (put-inside (put s a v) a (length v + c) w hp, take-put s a v a ha aa, drop-put-at s a v ha, put-append v x c w) in
-    let right : put (put s (a + (length v + c)) w) a v ≡ take a s ++ (v ++ put x c w) =
-    rw (
-      take-put s (a + (length v + c)) w a (omega arith) (omega arith),
-      drop-put-inside s a (length v + c) w ha,
-      drop-put-inside (drop a s) (length v) c w hv,
-    ) in
-    left ∙ sym right
-
--- two writes that do not meet
-pub put-comm : (s : List ℕ) (a : ℕ) (v : List ℕ) (b : ℕ) (w : List ℕ) → a + length v ≤ b → b + length w ≤ length s
-    → put (put s a v) b w ≡ put (put s b w) a v
-put-comm s a v b w h k =
-    let e : a + (length v + (b - (a + length v))) ≡ b = omega arith in
-    rw e at (put-comm-add s a v (b - (a + length v)) w (omega arith))
 
 -- ---- bytes stored one by one
 

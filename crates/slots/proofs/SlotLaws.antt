@@ -23,8 +23,6 @@ use Rattle.slots.proofs.Parts.{
   part-put-after,
   part-put-before,
   part-put-same,
-  put-comm,
-  put-part-same,
   take-put,
 }
 
@@ -32,10 +30,6 @@ module _ (t : List ℕ) (k : ℕ) (h : 16 * k + 16 ≤ length t) where
   pub length-slotAt : length (slotAt t k) ≡ 16
   unfolding slotAt
   length-slotAt = length-part t (16 * k) 16 h
-
-  pub withSlot-slotAt : withSlot t k (slotAt t k) ≡ t
-  unfolding slotAt withSlot
-  withSlot-slotAt = put-part-same t (16 * k) 16 h
 
   module _ (v : List ℕ) (e : length v ≡ 16) where
     pub length-withSlot : length (withSlot t k v) ≡ length t
@@ -51,14 +45,6 @@ module _ (t : List ℕ) (k : ℕ) (h : 16 * k + 16 ≤ length t) where
     slotAt-other j n = elim (decLt j k) [
       | yes l ↦ part-put-before t (16 * k) v (16 * j) 16 (omega arith) (omega arith)
       | no l ↦ part-put-after t (16 * k) v (16 * j) 16 (omega arith) (omega arith)
-    ]
-
-    pub withSlot-comm : (j : ℕ) (w : List ℕ) → 16 * j + 16 ≤ length t → length w ≡ 16 → j ≢ k
-        → withSlot (withSlot t k v) j w ≡ withSlot (withSlot t j w) k v
-    unfolding withSlot
-    withSlot-comm j w hj e′ n = elim (decLt j k) [
-      | yes l ↦ sym (put-comm t (16 * j) w (16 * k) v (omega arith) (omega arith))
-      | no l ↦ put-comm t (16 * k) v (16 * j) w (omega arith) (omega arith)
     ]
 
 -- ---- what is read of a slot, where it lies in the table

@@ -11,17 +11,17 @@ use native.Mathlib.Numerals.{add-one}
 use lib.Dec.{eqb}
 use mir.Syntax.{w32}
 use mir.Val.{Fits}
-use borrow.Author.Tests.{eqb-true, eq-eqb}
+use borrow.Author.Tests.{eqb-true, eq-eqb, not-false}
 use Rattle.network.specs.declared.Lowest.{Lowest}
 use Rattle.network.specs.declared.Lowest.the-variants.{At, Nowhere}
 use Rattle.network.specs.Search.{NoneWith}
-use Rattle.network.proofs.Tests.{and-both, clash, cond-true, neither}
+use Rattle.network.proofs.Tests.{and-both, and-yes, clash, neither}
 use Rattle.network.proofs.SearchLaws.{at-lowest, nowhere-none, none-nowhere}
 use Rattle.table.specs.declared.trailer.Head.{Head}
 use Rattle.table.specs.Board.{GoodBoard}
 use Rattle.table.specs.Layout.{layoutOf}
+use Rattle.table.specs.Packets.{goodAt}
 use Rattle.table.proofs.BoardLaws.{slots-most}
-use Rattle.survey.specs.declared.checking.Checked.{Checked}
 use Rattle.survey.specs.declared.checking.Checked.the-variants.{Passes, FaultAt}
 use Rattle.survey.specs.Check.{
   heldAt,
@@ -96,6 +96,10 @@ module _ (h : Head) (t : List ℕ) where
         single = nowhere-none (repeatsAt t) 0 size (b .0);
         counted = miscount-none (or-none (miscount h t) Nowhere (b .1) .0);
       }
+
+  -- a held slot of a table that passes is good
+  pub held-good : faultIn h t ≡ Nowhere → (k : ℕ) → k < layoutOf (h .board) .size → heldAt t k ≡ true → goodAt h t k ≡ true
+  held-good e k l q = not-false _ (sym (and-yes q) ∙ fault-none e .sound .lacks k (omega arith) (omega arith))
 
   pub none-fault : Faultless h t → faultIn h t ≡ Nowhere
   unfolding faultIn firstSpoiled firstRepeat miscount

@@ -4,6 +4,7 @@ pub mod MetLaws
 pub mod Meaning
 pub mod FindLaws
 pub mod CopyLaws
+pub mod ShownLaws
 pub mod Sight
 pub mod Veil
 pub mod Secrecy

@@ -4,19 +4,19 @@
 use Prim.Native.Nat.{ℕ, zero, suc, _+_, _-_, _≤_, _<_}
 use mathlib.Core.Path.{_≡_, refl, sym, ap, _∙_}
 use mathlib.Core.List.{List, [], _∷_, map}
-use mathlib.Core.Bool.{Bool, true, false, not, cond}
+use mathlib.Core.Bool.{Bool, true, false, not}
 use native.Mathlib.Omega.{arith}
 use native.Mathlib.Decide.{ℕ-discrete}
 use native.Mathlib.Nat.{not-suc-le-zero}
 use lib.ListN.{length}
-use borrow.Author.Tests.{eqb-true, eq-eqb, not-true, not-false}
+use borrow.Author.Tests.{not-true, not-false}
 use Rattle.network.specs.Lists.{All, Distinct, collect}
-use Rattle.network.specs.Packet.{Item, Good}
+use Rattle.network.specs.Packet.{Item, GoodItem}
 use Rattle.network.specs.Contents.{serialOf, Passing}
 use Rattle.network.specs.View.{seen, contents}
 use Rattle.network.proofs.Lists.{all-collect, collect-all, all-images, images-all}
 use Rattle.network.proofs.Course.{means-good}
-use Rattle.network.proofs.Tests.{clash, and-yes, and-no}
+use Rattle.network.proofs.Tests.{and-yes, and-no}
 use Rattle.slots.specs.Slots.{slotAt, zeros}
 use Rattle.table.specs.declared.trailer.Head.{Head}
 use Rattle.table.specs.Board.{GoodBoard, netOf}
@@ -24,7 +24,7 @@ use Rattle.table.specs.Layout.{layoutOf}
 use Rattle.table.specs.Packets.{slotOf, viewOf, itemIn, goodAt}
 use Rattle.table.proofs.PacketLaws.{good-here}
 use Rattle.survey.specs.Check.{heldAt, serialAt, spoiledAt, hasSerial, repeatsAt, heldBelow, faultIn}
-use Rattle.survey.proofs.CheckLaws.{Faultless, fault-none, none-fault, unused-serial, serial-unused}
+use Rattle.survey.proofs.CheckLaws.{fault-none, held-good, none-fault, unused-serial, serial-unused}
 use Rattle.network.specs.declared.Lowest.the-variants.{Nowhere}
 
 module _ (h : Head) (t : List ℕ) where
@@ -108,7 +108,7 @@ module _ (h : Head) (t : List ℕ) where
   size = layoutOf (h .board) .size
 
   abbrev Sound : Item → Type 0
-  Sound = Good (netOf (h .board)) (h .taken) (h .delivered)
+  Sound = GoodItem (netOf (h .board)) (h .taken) (h .delivered)
 
   abbrev Passes : Type 0
   Passes = Passing (netOf (h .board)) (contents (layoutOf (h .board)) (viewOf h t))
@@ -118,7 +118,7 @@ module _ (h : Head) (t : List ℕ) where
       let f = fault-none h t e in
       let all : h .taken ≡ h .delivered + length (collect (there h t) size) = omega (arith, f .counted, count-held h t size) in
       record {
-        sound = all-held h t Sound size (λ i l p. good-here h t i (not-false _ (sym (and-yes p) ∙ f .sound .lacks i (omega arith) (omega arith))) g l);
+        sound = all-held h t Sound size (λ i l p. good-here h t i (held-good h t e i l p) g l);
         distinct = distinct-by h t size (λ i l. f .single .lacks i (omega arith) (omega arith));
         counted = all;
       }

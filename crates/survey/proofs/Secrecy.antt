@@ -23,7 +23,7 @@ use Rattle.survey.specs.declared.copying.Copied.the-variants as copied
 use Rattle.survey.specs.Check.{faultIn, faultOr, unlessFault, readBy, onPassing, checkedSlice}
 use Rattle.survey.specs.Copy.{veiled, copiedIn, copiedSlice}
 use Rattle.survey.specs.Secrecy.{SameButPayloads, Alike, tables, neither}
-use Rattle.survey.proofs.CopyLaws.{veiled-slot, veiled-end}
+use Rattle.survey.proofs.ShownLaws.{veiled-slot, veiled-end}
 use Rattle.survey.proofs.Sight.{SeenSame, fault-same}
 
 -- what is read of two slices that are alike: no head in either, or one head, and tables that differ in payloads alone

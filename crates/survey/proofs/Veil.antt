@@ -1,14 +1,13 @@
 -- The outward copy of a table that passes the full check is a table that passes it.
 -- Assumes nothing.
 use Prim.Native.Nat.{ℕ, _+_, _-_, _*_, _<_}
-use mathlib.Core.Path.{_≡_, refl, sym, ap, _∙_}
+use mathlib.Core.Path.{_≡_, refl, ap, _∙_}
 use mathlib.Core.Logic.{_⊎_, inl, inr}
 use mathlib.Core.List.{List}
 use mathlib.Core.Bool.{Bool, true, false}
 use native.Mathlib.Omega.{arith}
 use borrow.Author.Tests.{not-false}
 use lib.ListN.{length, getD, take}
-use Rattle.network.proofs.Tests.{and-yes}
 use Rattle.network.specs.declared.Lowest.the-variants.{Nowhere}
 use Rattle.slots.specs.Slots.{slotAt, zeros}
 use Rattle.slots.proofs.SlotLaws.{length-slotAt}
@@ -18,10 +17,10 @@ use Rattle.table.specs.Trailer.{trailerOf}
 use Rattle.table.specs.Layout.{layoutOf}
 use Rattle.table.proofs.PacketLaws.{good-here}
 use Rattle.table.proofs.TrailerLaws.{table-sized, trailer-same}
-use Rattle.survey.specs.Check.{heldAt, spoiledAt, faultIn}
+use Rattle.survey.specs.Check.{heldAt, faultIn}
 use Rattle.survey.specs.Copy.{withoutPayload, veiled}
-use Rattle.survey.proofs.CheckLaws.{fault-none}
-use Rattle.survey.proofs.CopyLaws.{zeros-shown, front-shown, length-veiled, veiled-slot, veiled-end}
+use Rattle.survey.proofs.CheckLaws.{held-good}
+use Rattle.survey.proofs.ShownLaws.{zeros-shown, front-shown, length-veiled, veiled-slot, veiled-end}
 use Rattle.survey.proofs.Sight.{SeenSame, fault-same}
 
 abbrev count : Head → ℕ
@@ -39,12 +38,12 @@ module _ (t : List ℕ) {h : Head} (e : trailerOf t ≡ Good h) (l : length t �
       trailer-same (veiled (count h) t) t same (rw (same, at) (veiled-end (count h) t (omega arith))) ∙ e
 
   -- a slot of a table that passes is empty, or its packet is good and so has its mark
-  empty-or-marked : faultIn h t ≡ Nowhere → (k : ℕ) → k < count h → (zeros (slotAt t k) ≡ true) ⊎ (getD (slotAt t k) 0 0 ≡ 1)
-  empty-or-marked p k b = go (heldAt t k) refl (fault-none h t p .sound .lacks k (omega arith) (omega arith))
+  pub empty-or-marked : faultIn h t ≡ Nowhere → (k : ℕ) → k < count h → (zeros (slotAt t k) ≡ true) ⊎ (getD (slotAt t k) 0 0 ≡ 1)
+  empty-or-marked p k b = go (heldAt t k) refl
     where
-      go : (z : Bool) → heldAt t k ≡ z → spoiledAt h t k ≡ false → (zeros (slotAt t k) ≡ true) ⊎ (getD (slotAt t k) 0 0 ≡ 1)
-      go true q s = inr (good-here h t k (not-false _ (sym (and-yes q) ∙ s)) (table-sized t e l .board) b .marked)
-      go false q s = inl (not-false _ q)
+      go : (z : Bool) → heldAt t k ≡ z → (zeros (slotAt t k) ≡ true) ⊎ (getD (slotAt t k) 0 0 ≡ 1)
+      go true q = inr (good-here h t k (held-good h t p k b q) (table-sized t e l .board) b .marked)
+      go false q = inl (not-false _ q)
 
   shown-same : faultIn h t ≡ Nowhere → SeenSame (count h) (veiled (count h) t) t
   shown-same p = record {

@@ -6,6 +6,7 @@ use mathlib.Core.Path.{_≡_, refl, sym, ap, _∙_}
 use mathlib.Core.Logic.{_≢_}
 use mathlib.Core.List.{List}
 use native.Mathlib.Omega.{arith}
+use native.Mathlib.Decide.{ℕ-discrete}
 use lib.ListN.{length, take, drop}
 use borrow.Rule.Slice.PartMut.{putMid}
 use Rattle.slots.proofs.Parts.{lent-rest, rest-back}
@@ -24,6 +25,14 @@ module _ {A B : Type 0} (rows : List Row) (refusal : ℕ → A) (lent : B) (done
 
   pub answered-refused : {n : ℕ} → firstDue rows ≡ n → n ≢ 0 → answered rows refusal lent done ≡ outcome (refusal n) lent
   answered-refused e u = refused-by _ _ (λ z. u (sym e ∙ z)) ∙ ap (λ (k : ℕ). outcome (refusal k) lent) e
+
+-- the answer's number is that of the first row that is due; where none is, what is done answers 0
+pub answered-number : {A B : Type 0} (number : A → ℕ) (refusal : ℕ → A) → ((n : ℕ) → number (refusal n) ≡ n) → (rows : List Row) (lent : B) (done : Outcome A B)
+    → (firstDue rows ≡ 0 → number (done .answer) ≡ 0) → number (answered rows refusal lent done .answer) ≡ firstDue rows
+answered-number number refusal named rows lent done zero = elim (ℕ-discrete (firstDue rows) 0) [
+  | yes e ↦ ap (λ o. number (o .answer)) (answered-done rows refusal lent done e) ∙ zero e ∙ sym e
+  | no u ↦ ap (λ o. number (o .answer)) (answered-refused rows refusal lent done refl u) ∙ named (firstDue rows)
+]
 
 pub on-table-bad : {A : Type 0} (s : List ℕ) (refusal : ℕ → A) (f : Head → List ℕ → Outcome A (List ℕ)) → trailerOf s ≡ Bad → onTable s refusal f ≡ outcome (refusal trailer-not-good) s
 on-table-bad s refusal f e = ap (onHeaded s refusal f) e

@@ -1,12 +1,12 @@
 -- A packet that leaves slot a, and one carried from there to slot c: the slots after it, the table's length, what follows the slots, and the trailer.
 -- Assumes nothing.
 use Prim.Native.Nat.{ℕ, _+_, _*_, _≤_, _<_}
-use mathlib.Core.Path.{_≡_, refl, sym, _∙_}
+use mathlib.Core.Path.{_≡_, refl, _∙_}
 use mathlib.Core.Logic.{_≢_}
 use mathlib.Core.List.{List}
 use native.Mathlib.Omega.{arith}
 use lib.ListN.{length, getD, drop, length-set}
-use Rattle.slots.specs.Slots.{slotAt, withSlot, emptySlot}
+use Rattle.slots.specs.Slots.{slotAt, emptySlot}
 use Rattle.slots.proofs.SlotLaws.{length-slotAt, length-withSlot, slotAt-same, slotAt-other, drop-withSlot}
 use Rattle.table.specs.declared.board.Board.{Board}
 use Rattle.table.specs.declared.trailer.Head.{Head}

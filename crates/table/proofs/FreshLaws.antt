@@ -1,6 +1,6 @@
 -- A fresh table: how it is made, and that its trailer is good and its slots are empty.
 -- Assumes nothing.
-use Prim.Native.Nat.{ℕ, _+_, _-_, _*_, _<_, zero-le}
+use Prim.Native.Nat.{ℕ, _+_, _-_, _*_, _<_, _^_, zero-le}
 use mathlib.Core.Path.{_≡_, refl, sym, ap, _∙_}
 use mathlib.Core.List.{List, _++_, append-assoc}
 use native.Mathlib.Omega.{arith}
@@ -51,9 +51,11 @@ length-fresh b = simp (length-append, length-replicate, length-trailerBytes)
 abbrev pub freshHead : Board → Head
 freshHead b = record { board = b; taken = 0; delivered = 0; size = tableSize b }
 
-head-fresh : {b : Board} → GoodBoard b → headOf (trailerBytes b 0 0) ≡ freshHead b
+-- a trailer says the board and the counts that it was made of
+pub head-made : {b : Board} → GoodBoard b → (taken delivered : ℕ) → taken < 2 ^ 32 → delivered < 2 ^ 32
+    → headOf (trailerBytes b taken delivered) ≡ record { board = b; taken = taken; delivered = delivered; size = tableSize b }
 unfolding trailerBytes bytes32
-head-fresh {b} g = rw (digits (tableSize b) (omega (arith, slots-most b g)))
+head-made {b} g taken delivered l m = rw (digits taken l, digits delivered m, digits (tableSize b) (omega (arith, slots-most b g)))
 
 spare-fresh : (b : Board) → getD (trailerBytes b 0 0) 3 0 ≡ 0
 unfolding trailerBytes
@@ -73,7 +75,7 @@ fresh-good {b} g =
     good-trailer
     (record {
       long = omega arith;
-      read = sym (ap headOf z ∙ head-fresh g);
+      read = sym (ap headOf z ∙ head-made g 0 0 (omega arith) (omega arith));
       spare = ap (λ (v : List ℕ). getD v 3 0) z ∙ spare-fresh b;
       ranges = g;
       counts = zero-le;

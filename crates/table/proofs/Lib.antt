@@ -3,6 +3,7 @@ pub mod Sizes
 pub mod Places
 pub mod BoardLaws
 pub mod TrailerLaws
+pub mod TrailerTold
 pub mod CountLaws
 pub mod FreshLaws
 pub mod CallLaws

@@ -13,7 +13,7 @@ use Rattle.network.specs.declared.Kind.{Kind}
 use Rattle.network.specs.declared.Kind.the-variants.{Waiting, A, B}
 use Rattle.network.specs.declared.Place.{Place}
 use Rattle.network.specs.Net.{Net}
-use Rattle.network.specs.Packet.{Packet, fitsKind, good, Good, withHops}
+use Rattle.network.specs.Packet.{Packet, fitsKind, good, GoodItem, withHops}
 use Rattle.network.specs.View.{empty, held}
 use Rattle.network.proofs.Course.{good-means}
 use Rattle.network.proofs.Tests.{and-l, clash, cond-true, cond-false}
@@ -57,7 +57,7 @@ module _ (h : Head) (t : List ℕ) (k : ℕ) (good-there : goodAt h t k ≡ true
   mark-held = mark-not-zero (slotAt t k) (eqb-true _ _ (and-l _ _ good-there))
 
   module _ (g : GoodBoard (h .board)) (l : k < layoutOf (h .board) .size) where
-    pub good-here : Good (netOf (h .board)) (h .taken) (h .delivered) (itemIn (h .board) t k)
+    pub good-here : GoodItem (netOf (h .board)) (h .taken) (h .delivered) (itemIn (h .board) t k)
     unfolding goodAt
     good-here = good-means (netOf (h .board)) (h .taken) (h .delivered) (itemIn (h .board) t k) (layout-laws (h .board) g .on-net k l) good-there
 

@@ -66,10 +66,10 @@ module _ (width : ℕ) (low : 1 ≤ width) (high : width ≤ 16) (m : ℕ) where
   y-there : yOf (nodeOf width m) ≡ m / width
   y-there = let b : m % width < width = mod-lt m low in omega arith
 
-  number-there : numberOf width (nodeOf width m) ≡ m
+  pub number-there : numberOf width (nodeOf width m) ≡ m
   number-there = rw (x-there, y-there) (div-add-mod' m width)
 
-  node-on : (height : ℕ) → m < width * height → onGrid width height (nodeOf width m) ≡ true
+  pub node-on : (height : ℕ) → m < width * height → onGrid width height (nodeOf width m) ≡ true
   node-on height h =
       let row : m / width < height = div-lt-iff-lt-mul low .1 (rw (mul-comm height width) h) in
       on-by width height (nodeOf width m) (rw x-there (mod-lt m low)) (rw y-there row)

@@ -18,7 +18,7 @@ ind-below P small more (suc k) n h =
     let ih : n / 10 < k → P (n / 10) = ind-below P small more k (n / 10) in
     elim (decLt n 10) [ yes p ↦ small n p | no q ↦ more n (omega arith) (ih (omega arith)) ]
 
-dec-ind : (P : ℕ → Type 0) → ((n : ℕ) → n < 10 → P n) → ((n : ℕ) → 10 ≤ n → P (n / 10) → P n) → (n : ℕ) → P n
+pub dec-ind : (P : ℕ → Type 0) → ((n : ℕ) → n < 10 → P n) → ((n : ℕ) → 10 ≤ n → P (n / 10) → P n) → (n : ℕ) → P n
 dec-ind P small more n = ind-below P small more (suc n) n (omega arith)
 
 from-small : (k n : ℕ) → n < 10 → decFrom (suc k) n ≡ (48 + n) ∷ []
@@ -58,9 +58,6 @@ length-small n h = ap length (dec-small n h)
 
 pub length-more : (n : ℕ) → 10 ≤ n → length (dec n) ≡ length (dec (n / 10)) + 1
 length-more n h = ap length (dec-more n h) ∙ simp length-append
-
-pub dec-positive : (n : ℕ) → 0 < length (dec n)
-dec-positive = dec-ind (λ n. 0 < length (dec n)) (λ n h. omega (arith, length-small n h)) (λ n h ih. omega (arith, length-more n h))
 
 -- a number below 10 ^ (k + 1) has at most k + 1 digits
 pub length-dec : (k n : ℕ) → n < 10 ^ suc k → length (dec n) ≤ suc k

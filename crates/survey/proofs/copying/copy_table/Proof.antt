@@ -1,7 +1,7 @@
 -- `survey::copying::copy_table` meets its contract: the first fault decides.
 -- Assumes nothing.
 use Prim.Native.Nat.{ℕ}
-use mathlib.Core.Path.{_≡_, sym, ap, _∙_}
+use mathlib.Core.Path.{sym, ap, _∙_}
 use borrow.Author.Needs.{needs}
 use Rattle.table.specs.Calls.{outcome}
 use Rattle.survey.specs.declared.copying.Copied.the-variants.{FaultAt}

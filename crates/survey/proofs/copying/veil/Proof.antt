@@ -5,7 +5,7 @@ use mathlib.Core.Path.{_≡_, sym, ap, subst, _∙_}
 use native.Mathlib.Omega.{arith}
 use lib.ListN.{length}
 use Rattle.slots.specs.Slots.{withSlot}
-use Rattle.survey.proofs.CopyLaws.{Shown, shown-more, shown-all}
+use Rattle.survey.proofs.ShownLaws.{Shown, shown-more, shown-all}
 use Rattle.survey.proofs.copying.veil.Statement.{statement}
 use Rattle.survey.proofs.copying.veil.Tie as tie
 

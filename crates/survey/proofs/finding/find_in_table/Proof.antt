@@ -1,6 +1,6 @@
 -- `survey::finding::find_in_table` meets its contract: the first fault decides.
 -- Assumes nothing.
-use mathlib.Core.Path.{_≡_, sym, ap, _∙_}
+use mathlib.Core.Path.{sym, ap, _∙_}
 use borrow.Author.Needs.{needs}
 use Rattle.survey.specs.declared.finding.Found.the-variants.{FaultAt}
 use Rattle.survey.specs.Check.{faultOr}
