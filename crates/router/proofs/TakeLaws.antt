@@ -43,6 +43,10 @@ module _ (h : Head) (t : List ℕ) (source destination : ℕ) where
   abbrev pub takeDue : ℕ
   takeDue = firstDue (takeRows h t source destination)
 
+  -- where all serials are given out the answer is 7, whatever the waiting slot holds
+  pub all-given-out : netOf (h .board) .valid source ≡ true → netOf (h .board) .valid destination ≡ true → h .taken ≡ 4294967295 → takeDue ≡ 7
+  all-given-out on to e = cond-false _ _ (ap not on) ∙ cond-false _ _ (ap not to) ∙ cond-true _ _ (eq-eqb _ _ e)
+
   pub due-welcome : takeDue ≡ 0 → Welcome h t source destination
   due-welcome e =
       let a = passed 1 _ _ e in
@@ -50,10 +54,6 @@ module _ (h : Head) (t : List ℕ) (source destination : ℕ) where
       let c = passed 6 _ _ (b .1) in
       let d = passed 5 _ _ (c .1) in
       record { source-on = not-false _ (a .0); destination-on = not-false _ (b .0); more = eqb-false _ _ (c .0); room = not-false _ (d .0) }
-
-  -- where all serials are given out the answer is 7, whatever the waiting slot holds
-  pub all-given-out : netOf (h .board) .valid source ≡ true → netOf (h .board) .valid destination ≡ true → h .taken ≡ 4294967295 → takeDue ≡ 7
-  all-given-out on to e = cond-false _ _ (ap not on) ∙ cond-false _ _ (ap not to) ∙ cond-true _ _ (eq-eqb _ _ e)
 
   module _ (w : Welcome h t source destination) where
     -- the source's waiting slot

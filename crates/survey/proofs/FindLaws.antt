@@ -36,10 +36,6 @@ module _ (h : Head) (t : List ℕ) where
   due-code : (slot code : ℕ) → moveDue h t slot code ≡ 0 → code < codes
   due-code slot code e = let l = net-laws (h .board) .known-last code (due-granted h t slot code e .known) in omega arith
 
-  pub code-below : (slot code : ℕ) → firstCode h t slot ≡ At code → code < codes
-  unfolding firstCode
-  code-below slot code e = omega (arith, at-lowest (accepts h t slot) 0 codes code e .below)
-
   -- a slot has a code exactly where some move of it is accepted
   still : (slot : ℕ) → movable h t slot ≡ false → (code : ℕ) → moveDue h t slot code ≢ 0
   unfolding firstCode
@@ -50,6 +46,10 @@ module _ (h : Head) (t : List ℕ) where
   not-movable : (slot : ℕ) → ((code : ℕ) → moveDue h t slot code ≢ 0) → movable h t slot ≡ false
   unfolding firstCode
   not-movable slot u = ap isAt (none-nowhere (accepts h t slot) 0 codes (record { lacks = λ code l m. ne-eqb _ 0 (u code) }))
+
+  pub code-below : (slot code : ℕ) → firstCode h t slot ≡ At code → code < codes
+  unfolding firstCode
+  code-below slot code e = omega (arith, at-lowest (accepts h t slot) 0 codes code e .below)
 
   module _ (slot code : ℕ) (e : foundIn h t ≡ Move slot code) where
     named : (lowestWith (movable h t) 0 size ≡ At slot) × (numberAt (firstCode h t slot) ≡ code)

@@ -24,14 +24,14 @@ pub length-hopped : (t : List ℕ) (k more : ℕ) → 16 * k + 16 ≤ length t �
 length-hopped t k more h = length-hop (slotAt t k) more ∙ length-slotAt t k h
 
 module _ (b : Board) (t : List ℕ) (k : ℕ) (h : 16 * k + 16 ≤ length t) where
-  pub length-vacated : length (vacated b t k) ≡ length t
-  unfolding vacated
-  length-vacated = length-withSlot t k h emptySlot refl
-
   -- a slot left by a packet holds only zeros
   pub vacated-there : slotAt (vacated b t k) k ≡ emptySlot
   unfolding vacated
   vacated-there = slotAt-same t k h emptySlot refl
+
+  pub length-vacated : length (vacated b t k) ≡ length t
+  unfolding vacated
+  length-vacated = length-withSlot t k h emptySlot refl
 
   pub vacated-other : (j : ℕ) → j ≢ k → slotAt (vacated b t k) j ≡ slotAt t j
   unfolding vacated
