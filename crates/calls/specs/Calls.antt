@@ -8,7 +8,7 @@ use mathlib.Core.List.{List, [], _∷_, _++_}
 use lib.Dec.{eqb}
 use lib.ListN.{length}
 use Rattle.network.specs.Net.{delivery}
-use Rattle.table.specs.declared.board.Board.{Board}
+use Rattle.board.specs.declared.Board.{Board}
 use Rattle.calls.specs.Slices.{Bytes, placeIn}
 use Rattle.calls.specs.Router.{Router}
 

@@ -10,11 +10,11 @@ use Rattle.network.specs.Contents.{Contents}
 use Rattle.network.specs.View.{Layout, View, contents}
 pub use Rattle.slots.specs.Bytes.{Bytes}
 use Rattle.slots.specs.Slots.{slotAt}
-use Rattle.table.specs.declared.board.Board.{Board}
-use Rattle.table.specs.declared.trailer.Head.{Head}
-use Rattle.table.specs.Board.{netOf}
-use Rattle.table.specs.Layout.{layoutOf}
-use Rattle.table.specs.Trailer.{headOf, last16, GoodTrailer}
+use Rattle.board.specs.declared.Board.{Board}
+use Rattle.board.specs.Board.{netOf}
+use Rattle.board.specs.Layout.{layoutOf}
+use Rattle.trailer.specs.declared.Head.{Head}
+use Rattle.trailer.specs.Trailer.{headOf, last16, GoodTrailer}
 use Rattle.table.specs.Packets.{viewOf, itemIn}
 
 -- what the last 16 bytes say

@@ -13,18 +13,18 @@ use Rattle.network.specs.declared.Kind.the-variants.{Waiting, A, B}
 use Rattle.network.specs.declared.Lowest.{Lowest}
 use Rattle.network.specs.declared.Lowest.the-variants.{At, Nowhere}
 use Rattle.slots.specs.Slots.{slotAt, zeros}
-use Rattle.table.specs.declared.board.Board.{Board}
-use Rattle.table.specs.declared.trailer.Head.{Head}
-use Rattle.table.specs.declared.trailer.Headed.{Headed}
-use Rattle.table.specs.declared.trailer.Headed.the-variants.{Good, Bad}
+use Rattle.board.specs.declared.Board.{Board}
+use Rattle.board.specs.Board.{GoodBoard, coordinatesOf}
+use Rattle.board.specs.Layout.{layoutOf}
+use Rattle.board.proofs.BoardLaws.{slots-most, valid-byte, place-byte, coordinates-small}
+use Rattle.trailer.specs.declared.Head.{Head}
+use Rattle.trailer.specs.declared.Headed.{Headed}
+use Rattle.trailer.specs.declared.Headed.the-variants.{Good, Bad}
+use Rattle.trailer.specs.Trailer.{trailerOf, last16, GoodTrailer}
+use Rattle.trailer.proofs.TrailerLaws.{trailer-good}
 use Rattle.table.specs.Refusals.{trailer-not-good, wrong-length}
-use Rattle.table.specs.Board.{GoodBoard, coordinatesOf}
-use Rattle.table.specs.Trailer.{trailerOf, last16, GoodTrailer}
-use Rattle.table.specs.Layout.{layoutOf}
 use Rattle.table.specs.Packets.{itemIn, goodAt}
-use Rattle.table.proofs.BoardLaws.{slots-most, valid-byte, place-byte, coordinates-small}
 use Rattle.table.proofs.PacketLaws.{good-here, good-hops}
-use Rattle.table.proofs.TrailerLaws.{trailer-good}
 use Rattle.survey.specs.declared.checking.Checked.the-variants.{Passes, BadTrailer, FaultAt}
 use Rattle.survey.specs.Check.{heldAt, heldBelow, faultIn, faultOr, unlessFault, readBy, onPassing, checkedSlice}
 use Rattle.survey.proofs.CheckLaws.{held-good, fault-most}

@@ -12,12 +12,12 @@ use borrow.Author.Tests.{eq-eqb}
 use Rattle.network.specs.Packet.{good}
 use Rattle.network.proofs.Tests.{and-yes}
 use Rattle.slots.specs.Slots.{slotAt}
-use Rattle.table.specs.declared.trailer.Head.{Head}
-use Rattle.table.specs.Board.{boardOk, netOf, coordinatesOf}
-use Rattle.table.specs.Trailer.{headOk, trailerOf}
-use Rattle.table.specs.Layout.{layoutOf}
+use Rattle.board.specs.Board.{boardOk, netOf, coordinatesOf}
+use Rattle.board.specs.Layout.{layoutOf}
+use Rattle.board.proofs.BoardLaws.{net-laws}
+use Rattle.trailer.specs.declared.Head.{Head}
+use Rattle.trailer.specs.Trailer.{headOk, trailerOf}
 use Rattle.table.specs.Packets.{goodAt}
-use Rattle.table.proofs.BoardLaws.{net-laws}
 use Rattle.survey.specs.Check.{firstSpoiled, firstRepeat, miscount, faultIn, checkedSlice}
 use Rattle.text.specs.Dec.{dec, decFrom}
 use Rattle.text.specs.Text.{text}

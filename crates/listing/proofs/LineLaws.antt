@@ -4,7 +4,7 @@ use Prim.Native.Nat.{ℕ, _+_}
 use mathlib.Core.Path.{_≡_, refl, sym, ap, _∙_}
 use mathlib.Core.List.{List, [], _∷_, _++_, append-assoc, append-nil}
 use lib.ListN.{length, length-append}
-use Rattle.table.specs.declared.board.Board.{Board}
+use Rattle.board.specs.declared.Board.{Board}
 use Rattle.listing.specs.Line.{Top, Row, Line, row, lineText, headLine, slotLine, lastLine, joined}
 use Rattle.listing.specs.Lines.{onto, wholeLines, rowsText}
 

@@ -7,12 +7,12 @@ use native.Mathlib.Omega.{arith}
 use lib.ListN.{length, take, drop}
 use lib.Seq.{length-take-le}
 use borrow.Author.Tests.{lt-ltb, le-ltb}
-use Rattle.slots.proofs.Parts.{lent-rest}
 use Rattle.network.proofs.Tests.{cond-true, cond-false}
-use Rattle.table.specs.declared.trailer.Head.{Head}
-use Rattle.table.specs.declared.trailer.Headed.the-variants.{Good, Bad}
+use Rattle.slots.proofs.Parts.{lent-rest}
+use Rattle.trailer.specs.declared.Head.{Head}
+use Rattle.trailer.specs.declared.Headed.the-variants.{Good, Bad}
+use Rattle.trailer.specs.Trailer.{trailerOf}
 use Rattle.table.specs.Refusals.{trailer-not-good, wrong-length}
-use Rattle.table.specs.Trailer.{trailerOf}
 use Rattle.table.specs.Calls.{outcome}
 use Rattle.survey.specs.Check.{unlessFault, readBy, onPassing, checkedSlice}
 use Rattle.text.specs.Put.{Wrote}

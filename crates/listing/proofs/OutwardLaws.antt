@@ -15,14 +15,14 @@ use borrow.Author.Tests.{lt-ltb, le-ltb, eq-eqb}
 use Rattle.network.specs.declared.Lowest.{Lowest}
 use Rattle.network.specs.declared.Lowest.the-variants.{At, Nowhere}
 use Rattle.network.proofs.Tests.{clash, cond-true, cond-false}
-use Rattle.table.specs.declared.trailer.Head.{Head}
-use Rattle.table.specs.declared.trailer.Headed.the-variants.{Good, Bad}
+use Rattle.board.specs.Layout.{layoutOf}
+use Rattle.board.proofs.BoardLaws.{slots-most, slots-inside}
+use Rattle.trailer.specs.declared.Head.{Head}
+use Rattle.trailer.specs.declared.Headed.the-variants.{Good, Bad}
+use Rattle.trailer.specs.Trailer.{trailerOf}
+use Rattle.trailer.proofs.TrailerLaws.{trailer-good, trailer-sized, length-table}
 use Rattle.table.specs.Refusals.{wrong-length}
-use Rattle.table.specs.Trailer.{trailerOf}
-use Rattle.table.specs.Layout.{layoutOf}
 use Rattle.table.specs.Calls.{Outcome, outcome}
-use Rattle.table.proofs.BoardLaws.{slots-most, slots-inside}
-use Rattle.table.proofs.TrailerLaws.{trailer-good, trailer-sized, length-table}
 use Rattle.table.proofs.CallLaws.{both}
 use Rattle.survey.specs.declared.copying.Copied.{Copied}
 use Rattle.survey.specs.declared.copying.Copied.the-variants as copied

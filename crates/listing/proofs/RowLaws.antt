@@ -11,9 +11,9 @@ use lib.ListN.{length}
 use Rattle.network.specs.declared.Lowest.the-variants.{Nowhere}
 use Rattle.network.proofs.Tests.{cond-true, cond-false}
 use Rattle.slots.specs.Slots.{slotAt, zeros}
-use Rattle.table.specs.declared.board.Board.{Board}
-use Rattle.table.specs.declared.trailer.Head.{Head}
-use Rattle.table.specs.Layout.{layoutOf}
+use Rattle.board.specs.declared.Board.{Board}
+use Rattle.board.specs.Layout.{layoutOf}
+use Rattle.trailer.specs.declared.Head.{Head}
 use Rattle.survey.specs.Check.{heldAt, heldBelow, faultIn}
 use Rattle.survey.proofs.CheckLaws.{fault-none}
 use Rattle.text.specs.Put.{Fits}

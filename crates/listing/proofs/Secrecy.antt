@@ -7,10 +7,10 @@ use mathlib.Core.Path.{_≡_, refl, sym, ap, _∙_}
 use mathlib.Core.List.{List}
 use native.Mathlib.Omega.{arith}
 use lib.ListN.{length}
-use Rattle.table.specs.declared.board.Board.{Board}
-use Rattle.table.specs.declared.trailer.Head.{Head}
+use Rattle.board.specs.declared.Board.{Board}
+use Rattle.board.specs.Layout.{layoutOf}
+use Rattle.trailer.specs.declared.Head.{Head}
 use Rattle.table.specs.Refusals.{trailer-not-good}
-use Rattle.table.specs.Layout.{layoutOf}
 use Rattle.survey.specs.Secrecy.{Alike}
 use Rattle.survey.proofs.Sight.{SeenSame, fields-alike}
 use Rattle.survey.proofs.Secrecy.{seen, same-copy, passing-secret, check-secret}

@@ -6,9 +6,9 @@ use mathlib.Core.List.{List, [], _∷_, _++_}
 use Rattle.network.specs.declared.Kind.{Kind}
 use Rattle.network.specs.declared.Kind.the-variants.{Waiting, A, B}
 use Rattle.network.specs.declared.Place.{Place}
-use Rattle.table.specs.declared.board.Board.{Board}
-use Rattle.table.specs.declared.board.Coordinates.{Coordinates}
-use Rattle.table.specs.Board.{coordinatesOf}
+use Rattle.board.specs.declared.Board.{Board}
+use Rattle.board.specs.declared.Coordinates.{Coordinates}
+use Rattle.board.specs.Board.{coordinatesOf}
 use Rattle.text.specs.Dec.{dec}
 use Rattle.text.specs.Text.{text}
 

@@ -7,10 +7,10 @@ use mathlib.Core.List.{List, [], _∷_, _++_}
 use lib.ListN.{length}
 use Rattle.network.specs.declared.Place.{Place}
 use Rattle.slots.specs.Slots.{slotAt}
-use Rattle.table.specs.declared.board.Board.{Board}
-use Rattle.table.specs.declared.trailer.Head.{Head}
+use Rattle.board.specs.declared.Board.{Board}
+use Rattle.board.specs.Layout.{layoutOf}
+use Rattle.trailer.specs.declared.Head.{Head}
 use Rattle.table.specs.declared.packets.Fields.{Fields}
-use Rattle.table.specs.Layout.{layoutOf}
 use Rattle.table.specs.Packets.{fieldsOf}
 use Rattle.survey.specs.Check.{heldAt}
 use Rattle.listing.specs.Line.{Top, Row, Line, top, row, last, joined}

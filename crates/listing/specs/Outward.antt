@@ -6,9 +6,9 @@ use mathlib.Core.Bool.{cond, _||_}
 use mathlib.Core.List.{List, [], _++_}
 use lib.Dec.{ltb}
 use lib.ListN.{length, drop}
-use Rattle.table.specs.declared.trailer.Head.{Head}
+use Rattle.board.specs.Layout.{layoutOf}
+use Rattle.trailer.specs.declared.Head.{Head}
 use Rattle.table.specs.Refusals.{wrong-length}
-use Rattle.table.specs.Layout.{layoutOf}
 use Rattle.table.specs.Calls.{Outcome, outcome}
 use Rattle.survey.specs.Check.{onPassing}
 use Rattle.survey.specs.Copy.{veiled}

@@ -1,13 +1,13 @@
 // The two calls: the whole listing, and the one line of the check.
 use network::Lowest;
 use survey::checking::Checked;
-use table::trailer::Head;
-use table::trailer::Headed;
+use trailer::Head;
+use trailer::Headed;
 ghost use mathlib.Core.Path.{_≡_};
 ghost use Prim.Native.Nat.{_≤_};
 ghost use lib.ListN.{length, take};
+ghost use Rattle.board.specs.Layout.{Sized};
 ghost use Rattle.table.specs.Refusals.{wrong-length};
-ghost use Rattle.table.specs.Trailer.{Sized};
 ghost use Rattle.table.specs.Calls.{outcome};
 ghost use Rattle.survey.specs.Check.{unlessFault};
 ghost use Rattle.text.specs.Put.{Fits, Wrote};
@@ -77,7 +77,7 @@ fn put_listing(buf: &mut [u8], at: usize, s: &[u8]) -> usize
     if MOST < s.len() {
         return put_refusal(buf, at, table::refusals::BUFFER);
     }
-    let Headed::Good(h) = table::trailer::trailer(s) else {
+    let Headed::Good(h) = trailer::trailer(s) else {
         return put_refusal(buf, at, table::refusals::TRAILER);
     };
     let size = h.size;

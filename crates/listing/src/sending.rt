@@ -1,6 +1,6 @@
 // The call behind the program `outward`: the copy for outsiders, or why there is none.
 use survey::copying::Copied;
-use table::trailer::Headed;
+use trailer::Headed;
 ghost use mathlib.Core.Path.{_≡_};
 ghost use Prim.Native.Nat.{_≤_};
 ghost use mathlib.Core.List.{_++_};
@@ -49,7 +49,7 @@ fn send_read(s: &[u8], out: &mut [u8], line: &mut [u8]) -> Sent
     requires { ⌜ lineRoom ≤ length (now line) ⌝ }
     ensures { λ r. ⌜ outcome r (now (out .exit), now (line .exit)) ≡ laid (sentOf (now (s .entry))) (now (out .entry)) (now (line .entry)) ⌝ }
 {
-    let Headed::Good(h) = table::trailer::trailer(s) else {
+    let Headed::Good(h) = trailer::trailer(s) else {
         return send_words(s, line);
     };
     let size = h.size;

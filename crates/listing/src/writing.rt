@@ -1,16 +1,15 @@
 // The lines that list a table. Each function puts a text at a place and answers the place past it.
+use board::Board;
 use network::Kind;
 use network::Place;
-use table::board::Board;
 use table::packets::Fields;
-use table::trailer::Head;
+use trailer::Head;
 ghost use mathlib.Core.Path.{_≡_};
 ghost use mathlib.Core.List.{_∷_, [], _++_};
 ghost use Prim.Native.Nat.{_≤_, _<_};
-ghost use Rattle.table.specs.Trailer.{Sized};
-ghost use Rattle.table.specs.Board.{GoodBoard};
-ghost use Rattle.table.specs.Layout.{layoutOf};
 ghost use Rattle.network.specs.declared.Lowest.the-variants.{Nowhere};
+ghost use Rattle.board.specs.Board.{GoodBoard};
+ghost use Rattle.board.specs.Layout.{layoutOf, Sized};
 ghost use Rattle.survey.specs.Check.{faultIn};
 ghost use Rattle.text.specs.Put.{Fits, Wrote};
 ghost use Rattle.listing.specs.Line.{gridText, countsText, headLine, letter, nodeText, placeText, packetText, slotLine, lastLine};
@@ -59,7 +58,7 @@ fn put_node(buf: &mut [u8], at: usize, board: Board, n: u8) -> usize
     requires { ⌜ Fits (now buf) at (nodeText board n) ⌝ }
     ensures { λ r. ⌜ Wrote (now (buf .entry)) at (nodeText board n) (now (buf .exit)) r ⌝ }
 {
-    let c = table::board::coordinates_of(board, n);
+    let c = board::coordinates_of(board, n);
     let a = text::put_decimal(buf, at, c.x as u32);
     let b = text::put_byte(buf, a, b',');
     text::put_decimal(buf, b, c.y as u32)
@@ -121,7 +120,7 @@ fn put_row(buf: &mut [u8], at: usize, t: &[u8], board: Board, k: usize) -> usize
     if slots::slot_empty(t, k) {
         return at;
     }
-    let here = table::layout::place_of(board, k);
+    let here = board::layout::place_of(board, k);
     let f = table::packets::read_fields(t, k);
     put_slot_line(buf, at, board, k as u32, here, f)
 }
@@ -131,7 +130,7 @@ fn put_rows(buf: &mut [u8], at: usize, t: &[u8], board: Board) -> usize
     requires { ⌜ Fits (now buf) at (rowsText board (rowsIn board (now t) (layoutOf board .size))) ⌝ }
     ensures { λ r. ⌜ Wrote (now (buf .entry)) at (rowsText board (rowsIn board (now (t .entry)) (layoutOf board .size))) (now (buf .exit)) r ⌝ }
 {
-    let n = table::layout::slots_of(board);
+    let n = board::layout::slots_of(board);
     let mut end = at;
     let mut k = 0;
     while k < n {

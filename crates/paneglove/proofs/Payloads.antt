@@ -11,14 +11,15 @@ use Rattle.network.proofs.Tests.{clash}
 use Rattle.slots.specs.Slots.{slotAt}
 use Rattle.slots.proofs.Parts.{length-part}
 use Rattle.slots.proofs.SlotLaws.{length-slotAt}
-use Rattle.table.specs.declared.trailer.Head.{Head}
-use Rattle.table.specs.declared.trailer.Headed.{Headed}
-use Rattle.table.specs.declared.trailer.Headed.the-variants.{Good, Bad}
-use Rattle.table.specs.Trailer.{trailerOf, Sized}
+use Rattle.board.specs.Layout.{Sized}
+use Rattle.board.proofs.BoardLaws.{slot-fits}
+use Rattle.trailer.specs.declared.Head.{Head}
+use Rattle.trailer.specs.declared.Headed.{Headed}
+use Rattle.trailer.specs.declared.Headed.the-variants.{Good, Bad}
+use Rattle.trailer.specs.Trailer.{trailerOf}
+use Rattle.trailer.proofs.TrailerLaws.{trailer-sized}
 use Rattle.table.specs.Calls.{Outcome, onHeaded}
 use Rattle.table.proofs.RefusalLaws.{accepted-by, refused-by}
-use Rattle.table.proofs.BoardLaws.{slot-fits}
-use Rattle.table.proofs.TrailerLaws.{trailer-sized}
 use Rattle.router.specs.ReadPayload.{Reading, reading, refusal, readIn, readSlice}
 use Rattle.router.specs.Verdicts.{slotDue}
 use Rattle.router.proofs.NamedLaws.{due-named}

@@ -9,15 +9,15 @@ use lib.ListN.{length, take, drop, length-append}
 use lib.Seq.{take-append-add, drop-append-add}
 use borrow.Author.Tests.{le-ltb}
 use Rattle.network.proofs.Tests.{cond-true, cond-false}
-use Rattle.table.specs.declared.board.Board.{Board}
-use Rattle.table.specs.declared.trailer.Head.{Head}
-use Rattle.table.specs.declared.trailer.Headed.the-variants.{Good}
-use Rattle.table.specs.Board.{GoodBoard, boardOk}
-use Rattle.table.specs.Layout.{tableSize}
-use Rattle.table.specs.Trailer.{fresh, trailerOf}
+use Rattle.board.specs.declared.Board.{Board}
+use Rattle.board.specs.Board.{GoodBoard, boardOk}
+use Rattle.board.specs.Layout.{tableSize}
+use Rattle.board.proofs.Sizes.{board-good}
+use Rattle.trailer.specs.declared.Head.{Head}
+use Rattle.trailer.specs.declared.Headed.the-variants.{Good}
+use Rattle.trailer.specs.Trailer.{fresh, trailerOf}
+use Rattle.trailer.proofs.TrailerLaws.{trailer-after}
 use Rattle.table.specs.Calls.{Outcome, outcome, after, onTable}
-use Rattle.table.proofs.Sizes.{board-good}
-use Rattle.table.proofs.TrailerLaws.{trailer-after}
 use Rattle.table.proofs.CallLaws.{answered-done, answered-refused, on-table-good}
 use Rattle.router.specs.Clear.{used, clearRows, clearedAs, clearedSlice}
 use Rattle.router.specs.TakeIn.{takenIn, takenSlice}

@@ -13,12 +13,12 @@ use Rattle.network.specs.Drain.{Drains}
 use Rattle.network.specs.declared.Lowest.the-variants.{Nowhere}
 use Rattle.network.proofs.Tests.{clash}
 use Rattle.slots.proofs.ByteLaws.{byte-small}
-use Rattle.table.specs.declared.trailer.Head.{Head}
-use Rattle.table.specs.declared.trailer.Headed.{Headed}
-use Rattle.table.specs.declared.trailer.Headed.the-variants.{Good, Bad}
-use Rattle.table.specs.Trailer.{trailerOf, last16}
-use Rattle.table.proofs.TrailerLaws.{trailer-good}
-use Rattle.table.proofs.CountLaws.{delivering}
+use Rattle.trailer.specs.declared.Head.{Head}
+use Rattle.trailer.specs.declared.Headed.{Headed}
+use Rattle.trailer.specs.declared.Headed.the-variants.{Good, Bad}
+use Rattle.trailer.specs.Trailer.{trailerOf, last16}
+use Rattle.trailer.proofs.TrailerLaws.{trailer-good}
+use Rattle.trailer.proofs.CountLaws.{delivering}
 use Rattle.survey.specs.declared.checking.Checked.{Checked}
 use Rattle.survey.specs.declared.checking.Checked.the-variants.{Passes, BadTrailer, FaultAt}
 use Rattle.survey.specs.Check.{unlessFault, readBy, faultIn, checkedIn, checkedSlice, checkAnswer}

@@ -6,9 +6,9 @@ use Rattle.mesh.specs.Rule.{stepOf, signsOf, ruled}
 use Rattle.mesh.specs.Published.{published}
 use Rattle.slots.specs.Bytes.{bytes32}
 use Rattle.slots.specs.Slots.{slotAt, withSlot}
-use Rattle.table.specs.Board.{boardOk, netOf, publishedOn}
-use Rattle.table.specs.Layout.{layoutOf}
-use Rattle.table.specs.Trailer.{headOk, trailerOf, withTaken, withDelivered, trailerBytes, fresh}
+use Rattle.board.specs.Board.{boardOk, netOf, publishedOn}
+use Rattle.board.specs.Layout.{layoutOf}
+use Rattle.trailer.specs.Trailer.{headOk, trailerOf, withTaken, withDelivered, trailerBytes, fresh}
 use Rattle.table.specs.Packets.{goodAt}
 use Rattle.table.specs.Queues.{roomAt}
 use Rattle.table.specs.Carriage.{vacated, carried}

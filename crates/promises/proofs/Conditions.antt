@@ -20,10 +20,10 @@ use Rattle.network.proofs.Course.{means-good}
 use Rattle.slots.specs.Slots.{zeros}
 use Rattle.slots.proofs.SlotLaws.{length-slotAt}
 use Rattle.slots.proofs.ZeroLaws.{zeros-emptySlot}
-use Rattle.table.specs.Trailer.{Sized}
+use Rattle.board.specs.Layout.{Sized}
+use Rattle.board.proofs.BoardLaws.{published-on, layout-laws, slot-fits}
 use Rattle.table.specs.Packets.{goodAt}
 use Rattle.table.specs.Queues.{emptyAt, roomAt}
-use Rattle.table.proofs.BoardLaws.{published-on, layout-laws, slot-fits}
 use Rattle.table.proofs.QueueLaws.{room-lowest, room-there, room-within}
 use Rattle.table.proofs.PacketLaws.{good-here}
 use Rattle.router.specs.Move.{leadOf, barred, blocked}

@@ -9,8 +9,8 @@ use native.Mathlib.Omega.{arith}
 use lib.ListN.{length, drop}
 use Rattle.network.specs.declared.Lead.the-variants.{NotOffered}
 use Rattle.network.proofs.Tests.{clash}
-use Rattle.table.specs.declared.trailer.Head.{Head}
-use Rattle.table.specs.Layout.{layoutOf}
+use Rattle.board.specs.Layout.{layoutOf}
+use Rattle.trailer.specs.declared.Head.{Head}
 use Rattle.table.specs.Calls.{Outcome}
 use Rattle.router.specs.Move.{barred, leadOf, movedSlice}
 use Rattle.router.proofs.NamedLaws.{targets}
@@ -22,8 +22,8 @@ use Rattle.survey.proofs.CopyLaws.{Made, copied-made}
 use Rattle.survey.proofs.ShownLaws.{length-veiled, veiled-slot, veiled-end}
 use Rattle.survey.proofs.Secrecy.{secret}
 use Rattle.calls.specs.Slices.{Bytes, headIn, boardIn, tableIn, GoodIn, slotsIn, placeIn}
-use Rattle.promises.specs.Conditions.{leadIn}
 use Rattle.calls.specs.Router.{ours}
+use Rattle.promises.specs.Conditions.{leadIn}
 use Rattle.promises.specs.Demand2.{GoodPacket, Offered, OneStep, Shows, Demand2}
 use Rattle.promises.proofs.Reading.{head-is, table-is, good-in, good-is}
 use Rattle.promises.proofs.Steps.{offered-known}

@@ -13,7 +13,7 @@ use Rattle.network.specs.Search.{lowestWith}
 use Rattle.network.proofs.Tests.{clash}
 use Rattle.network.proofs.Slots.{held-mem}
 use Rattle.slots.specs.Slots.{zeros}
-use Rattle.table.specs.declared.trailer.Head.{Head}
+use Rattle.trailer.specs.declared.Head.{Head}
 use Rattle.table.specs.Packets.{packetOf}
 use Rattle.table.proofs.PacketLaws.{slot-held}
 use Rattle.router.specs.Move.{moveDue, movedSlice}

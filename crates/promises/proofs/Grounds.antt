@@ -7,11 +7,11 @@ use mathlib.Core.Logic.{inl, inr, _↔_}
 use mathlib.Core.Bool.{Bool, true, false, not, cond}
 use mathlib.Core.List.{List, [], _∷_}
 use Rattle.network.proofs.Tests.{clash}
-use Rattle.table.specs.declared.trailer.Head.{Head}
-use Rattle.table.specs.declared.trailer.Headed.{Headed}
-use Rattle.table.specs.declared.trailer.Headed.the-variants.{Good, Bad}
+use Rattle.trailer.specs.declared.Head.{Head}
+use Rattle.trailer.specs.declared.Headed.{Headed}
+use Rattle.trailer.specs.declared.Headed.the-variants.{Good, Bad}
+use Rattle.trailer.specs.Trailer.{trailerOf}
 use Rattle.table.specs.Refusals.{Row, firstDue, trailer-not-good}
-use Rattle.table.specs.Trailer.{trailerOf}
 use Rattle.table.specs.Calls.{Outcome, answered, onTable}
 use Rattle.table.proofs.CallLaws.{answered-number, on-table-bad, on-table-good}
 use Rattle.calls.specs.Slices.{headIn, tableIn, GoodIn}

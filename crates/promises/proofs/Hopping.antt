@@ -21,21 +21,21 @@ use Rattle.network.proofs.Tests.{clash}
 use Rattle.slots.specs.Bytes.{bytes32}
 use Rattle.slots.proofs.Numbers.{digits}
 use Rattle.slots.proofs.SlotLaws.{length-slotAt}
-use Rattle.table.specs.declared.trailer.Head.{Head}
+use Rattle.board.proofs.BoardLaws.{net-laws, slot-fits}
+use Rattle.trailer.specs.declared.Head.{Head}
 use Rattle.table.specs.Packets.{packetOf}
 use Rattle.table.specs.Carriage.{hop}
-use Rattle.table.proofs.BoardLaws.{net-laws, slot-fits}
 use Rattle.table.proofs.PacketLaws.{packet-hop}
+use Rattle.table.specs.Calls.{Outcome}
 use Rattle.router.specs.declared.moving.Moved.{Moved}
 use Rattle.router.specs.declared.taking.Taken.{Taken}
-use Rattle.table.specs.Calls.{Outcome}
 use Rattle.router.specs.Move.{barred, leadOf, movedSlice}
 use Rattle.survey.specs.declared.checking.Checked.the-variants.{Passes}
 use Rattle.survey.specs.Check.{checkedSlice}
 use Rattle.calls.specs.Slices.{Bytes, headIn, boardIn, tableIn, GoodIn, slotsIn, slotIn, placeIn}
-use Rattle.promises.specs.Conditions.{leadIn}
 use Rattle.calls.specs.Router.{ours}
 use Rattle.calls.specs.Calls.{moves, Given, givenBy}
+use Rattle.promises.specs.Conditions.{leadIn}
 use Rattle.promises.specs.Demand2.{GoodPacket, Goes, Leaves, OneStep}
 use Rattle.promises.specs.Answers.{newPacket, Enters}
 use Rattle.promises.specs.History.{hopBy, hoppedBy}

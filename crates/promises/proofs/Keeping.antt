@@ -12,22 +12,22 @@ use borrow.Author.Tests.{eqb-true, eqb-false}
 use Rattle.network.specs.Lists.{All}
 use Rattle.network.specs.Net.{Net}
 use Rattle.network.proofs.Lists.{swap-front}
-use Rattle.table.specs.declared.board.Board.{Board}
-use Rattle.table.specs.declared.trailer.Head.{Head}
-use Rattle.table.specs.Board.{netOf}
-use Rattle.table.specs.Layout.{layoutOf}
+use Rattle.board.specs.declared.Board.{Board}
+use Rattle.board.specs.Board.{netOf}
+use Rattle.board.specs.Layout.{layoutOf}
+use Rattle.trailer.specs.declared.Head.{Head}
+use Rattle.trailer.proofs.CountLaws.{taking}
 use Rattle.table.specs.Packets.{packetOf}
-use Rattle.table.proofs.CountLaws.{taking}
-use Rattle.router.specs.declared.taking.Taken.{Taken}
 use Rattle.table.specs.Calls.{Outcome}
+use Rattle.router.specs.declared.taking.Taken.{Taken}
 use Rattle.router.specs.Clear.{used, clearedSlice}
 use Rattle.router.specs.TakeIn.{takenSlice}
 use Rattle.survey.specs.declared.checking.Checked.the-variants.{Passes}
 use Rattle.survey.specs.Check.{checkAnswer, checkedSlice}
 use Rattle.calls.specs.Slices.{Bytes, headIn, GoodIn, netIn, slotsIn}
-use Rattle.promises.specs.Conditions.{NothingHeld}
 use Rattle.calls.specs.Router.{ours}
 use Rattle.calls.specs.Calls.{Call, clears, takes, moves, looks, Handed, Given, Quiet, lookedBy, leftBy, givenBy}
+use Rattle.promises.specs.Conditions.{NothingHeld}
 use Rattle.promises.specs.Demand3.{boundsIn}
 use Rattle.promises.specs.Answers.{Fresh, Enters}
 use Rattle.promises.specs.History.{boundFor, hoppedBy, Ledger, opened, entered}

@@ -9,12 +9,12 @@ use lib.ListN.{length, take, replicate}
 use Rattle.slots.specs.Bytes.{bytes32}
 use Rattle.slots.specs.Slots.{withSlot}
 use Rattle.slots.proofs.ByteLaws.{bytes-append, bytes-take, bytes-drop, bytes-zeros, bytes-number, bytes-put, bytes-withSlot}
-use Rattle.table.specs.declared.board.Board.{Board}
-use Rattle.table.specs.Board.{GoodBoard}
-use Rattle.table.specs.Layout.{layoutOf, tableSize}
-use Rattle.table.specs.Trailer.{trailerBytes, fresh, withTaken}
+use Rattle.board.specs.declared.Board.{Board}
+use Rattle.board.specs.Board.{GoodBoard}
+use Rattle.board.specs.Layout.{layoutOf, tableSize}
+use Rattle.board.proofs.BoardLaws.{valid-byte}
+use Rattle.trailer.specs.Trailer.{trailerBytes, fresh, withTaken}
 use Rattle.table.specs.Calls.{Outcome}
-use Rattle.table.proofs.BoardLaws.{valid-byte}
 use Rattle.router.specs.declared.taking.Taken.{Taken}
 use Rattle.router.specs.Clear.{used, clearedAs, clearedSlice}
 use Rattle.router.specs.TakeIn.{newRecord, takenSlice}

@@ -7,10 +7,11 @@ use native.Mathlib.Omega.{arith}
 use lib.ListN.{length, take, drop, length-append}
 use lib.Seq.{drop-at, take-at}
 use Rattle.network.proofs.Tests.{clash}
-use Rattle.table.specs.declared.trailer.Head.{Head}
-use Rattle.table.specs.declared.trailer.Headed.the-variants.{Good, Bad}
-use Rattle.table.specs.Trailer.{trailerOf, Sized}
-use Rattle.table.proofs.TrailerLaws.{trailer-good, good-trailer, trailer-after, trailer-sized}
+use Rattle.board.specs.Layout.{Sized}
+use Rattle.trailer.specs.declared.Head.{Head}
+use Rattle.trailer.specs.declared.Headed.the-variants.{Good, Bad}
+use Rattle.trailer.specs.Trailer.{trailerOf}
+use Rattle.trailer.proofs.TrailerLaws.{trailer-good, good-trailer, trailer-after, trailer-sized}
 use Rattle.calls.specs.Slices.{headIn, GoodIn, tableIn, beforeIn}
 
 module _ (s : List ℕ) {h : Head} (e : trailerOf s ≡ Good h) where

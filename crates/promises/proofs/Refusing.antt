@@ -10,9 +10,9 @@ use lib.ListN.{length}
 use borrow.Author.Tests.{not-true, not-false, ltb-true, ltb-false, eqb-true, eqb-false}
 use Rattle.network.specs.declared.Kind.the-variants.{Waiting}
 use Rattle.network.specs.Net.{at}
-use Rattle.table.specs.declared.board.Board.{Board}
-use Rattle.table.specs.Layout.{tableSize}
-use Rattle.table.proofs.Sizes.{board-good, good-board}
+use Rattle.board.specs.declared.Board.{Board}
+use Rattle.board.specs.Layout.{tableSize}
+use Rattle.board.proofs.Sizes.{board-good, good-board}
 use Rattle.router.specs.declared.taking.Taken.{Taken}
 use Rattle.router.specs.Clear.{used, clearRows, clearedAs, clearedSlice}
 use Rattle.router.specs.TakeIn.{refusal as takeRefusal, takeRows, tookIn, takenIn, takenSlice}

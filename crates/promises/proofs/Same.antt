@@ -15,23 +15,23 @@ use Rattle.network.specs.declared.Lead.the-variants.{Hop, Turn, Out, NotOffered
 use Rattle.network.specs.Net.{at}
 use Rattle.slots.specs.Slots.{emptySlot}
 use Rattle.slots.proofs.SlotLaws.{slots-ext}
-use Rattle.table.specs.declared.trailer.Head.{Head}
-use Rattle.table.specs.declared.trailer.Headed.{Headed}
-use Rattle.table.specs.declared.trailer.Headed.the-variants.{Good, Bad}
-use Rattle.table.specs.declared.board.Board.{Board}
-use Rattle.table.specs.Layout.{layoutOf, tableSize}
-use Rattle.table.specs.Trailer.{last16, trailerOf}
-use Rattle.table.proofs.BoardLaws.{layout-laws, one-waiting}
+use Rattle.board.specs.declared.Board.{Board}
+use Rattle.board.specs.Layout.{layoutOf, tableSize}
+use Rattle.board.proofs.BoardLaws.{layout-laws, one-waiting}
+use Rattle.trailer.specs.declared.Head.{Head}
+use Rattle.trailer.specs.declared.Headed.{Headed}
+use Rattle.trailer.specs.declared.Headed.the-variants.{Good, Bad}
+use Rattle.trailer.specs.Trailer.{last16, trailerOf}
+use Rattle.trailer.proofs.TrailerTold.{length-last, bytes-last, last-told, trailer-told}
+use Rattle.table.specs.Calls.{Outcome}
 use Rattle.router.specs.declared.moving.Moved.{Moved}
 use Rattle.router.specs.declared.taking.Taken.{Taken}
-use Rattle.table.specs.Calls.{Outcome}
 use Rattle.calls.specs.Slices.{Bytes, headIn, boardIn, GoodIn, layoutIn, slotsIn, slotIn, placeIn}
 use Rattle.promises.specs.Conditions.{SpoiledAt, RepeatsAt, NoneBelow, FaultAt, spoiled, repeated, miscounted, EmptyOf}
 use Rattle.promises.specs.Demand1.{Grounds, end, Refuses, Placed}
 use Rattle.promises.specs.Demand2.{Kept, Goes, Leaves, OneStep, Shows}
 use Rattle.promises.specs.Answers.{Fresh, Enters}
 use Rattle.promises.proofs.Reading.{good-in, bad-in}
-use Rattle.table.proofs.TrailerTold.{length-last, bytes-last, last-told, trailer-told}
 use Rattle.promises.proofs.Told.{slice-told, slots-size, kept-told}
 
 -- ---- refusals

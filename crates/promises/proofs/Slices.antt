@@ -22,18 +22,18 @@ use Rattle.network.proofs.Lists.{all-mem}
 use Rattle.network.proofs.Course.{means-good}
 use Rattle.network.proofs.Slots.{held-mem, carried-stepped, handed-left, table-drains, table-fit}
 use Rattle.slots.specs.Slots.{slotAt}
-use Rattle.table.specs.declared.board.Board.{Board}
-use Rattle.table.specs.declared.trailer.Head.{Head}
-use Rattle.table.specs.declared.trailer.Headed.the-variants.{Good}
-use Rattle.table.specs.Board.{netOf}
-use Rattle.table.specs.Layout.{layoutOf}
-use Rattle.table.specs.Trailer.{trailerOf, withDelivered}
+use Rattle.board.specs.declared.Board.{Board}
+use Rattle.board.specs.Board.{netOf}
+use Rattle.board.specs.Layout.{layoutOf}
+use Rattle.board.proofs.BoardLaws.{net-laws, layout-laws}
+use Rattle.trailer.specs.declared.Head.{Head}
+use Rattle.trailer.specs.declared.Headed.the-variants.{Good}
+use Rattle.trailer.specs.Trailer.{trailerOf, withDelivered}
+use Rattle.trailer.proofs.TrailerLaws.{trailer-after, trailer-table, trailer-sized, length-table}
+use Rattle.trailer.proofs.CountLaws.{delivering}
 use Rattle.table.specs.Packets.{packetOf, viewOf, itemIn, goodAt}
 use Rattle.table.specs.Carriage.{vacated, carried}
 use Rattle.table.specs.Calls.{Outcome, after}
-use Rattle.table.proofs.BoardLaws.{net-laws, layout-laws}
-use Rattle.table.proofs.TrailerLaws.{trailer-after, trailer-table, trailer-sized, length-table}
-use Rattle.table.proofs.CountLaws.{delivering}
 use Rattle.table.proofs.PacketLaws.{slot-says}
 use Rattle.table.proofs.CallLaws.{on-table-good}
 use Rattle.router.specs.declared.moving.Moved.{Moved}

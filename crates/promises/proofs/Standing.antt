@@ -7,13 +7,13 @@ use mathlib.Core.List.{List, _++_}
 use lib.ListN.{length, drop}
 use Rattle.network.specs.Contents.{Passing}
 use Rattle.network.specs.View.{View, contents}
-use Rattle.table.specs.declared.trailer.Head.{Head}
-use Rattle.table.specs.declared.trailer.Headed.the-variants.{Good}
-use Rattle.table.specs.Trailer.{trailerOf}
-use Rattle.table.specs.Board.{netOf}
-use Rattle.table.specs.Layout.{layoutOf}
+use Rattle.board.specs.Board.{netOf}
+use Rattle.board.specs.Layout.{layoutOf}
+use Rattle.trailer.specs.declared.Head.{Head}
+use Rattle.trailer.specs.declared.Headed.the-variants.{Good}
+use Rattle.trailer.specs.Trailer.{trailerOf}
+use Rattle.trailer.proofs.TrailerLaws.{trailer-after}
 use Rattle.table.specs.Packets.{viewOf}
-use Rattle.table.proofs.TrailerLaws.{trailer-after}
 use Rattle.survey.specs.Check.{checkAnswer, checkedSlice}
 use Rattle.calls.specs.Slices.{netIn, see, contentsIn}
 use Rattle.promises.proofs.Reading.{head-is, good-in}

@@ -15,13 +15,13 @@ use Rattle.network.specs.Table.{HasRoom}
 use Rattle.network.proofs.Tests.{clash}
 use Rattle.network.proofs.SearchLaws.{some-at}
 use Rattle.slots.specs.Slots.{slotAt}
-use Rattle.table.specs.declared.board.Board.{Board}
-use Rattle.table.specs.declared.trailer.Head.{Head}
-use Rattle.table.specs.Board.{netOf}
-use Rattle.table.specs.Layout.{layoutOf}
+use Rattle.board.specs.declared.Board.{Board}
+use Rattle.board.specs.Board.{netOf}
+use Rattle.board.specs.Layout.{layoutOf}
+use Rattle.board.proofs.BoardLaws.{net-laws}
+use Rattle.trailer.specs.declared.Head.{Head}
 use Rattle.table.specs.Packets.{viewOf, itemIn, goodAt}
 use Rattle.table.specs.Queues.{emptyAt, roomAt}
-use Rattle.table.proofs.BoardLaws.{net-laws}
 use Rattle.table.proofs.PacketLaws.{slot-says, slot-zeros}
 use Rattle.router.specs.Move.{barred, moveDue}
 use Rattle.router.proofs.NamedLaws.{Named}

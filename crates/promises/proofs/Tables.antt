@@ -7,10 +7,10 @@ use native.Mathlib.Omega.{arith}
 use lib.ListN.{length, drop, length-append, take-append-drop}
 use lib.Seq.{drop-append-add}
 use Rattle.slots.specs.Slots.{slotAt}
-use Rattle.table.specs.declared.trailer.Head.{Head}
-use Rattle.table.specs.declared.trailer.Headed.the-variants.{Good}
-use Rattle.table.specs.Trailer.{trailerOf, last16}
-use Rattle.table.proofs.TrailerLaws.{trailer-good, trailer-table, length-table}
+use Rattle.trailer.specs.declared.Head.{Head}
+use Rattle.trailer.specs.declared.Headed.the-variants.{Good}
+use Rattle.trailer.specs.Trailer.{trailerOf, last16}
+use Rattle.trailer.proofs.TrailerLaws.{trailer-good, trailer-table, length-table}
 use Rattle.calls.specs.Slices.{headIn, tableIn, beforeIn, GoodIn, slotsIn, slotIn}
 use Rattle.promises.specs.Demand2.{Kept}
 use Rattle.promises.proofs.Reading.{good-is, table-after, before-after}

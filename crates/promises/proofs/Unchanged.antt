@@ -6,12 +6,12 @@ use mathlib.Core.Logic.{_≢_}
 use mathlib.Core.List.{List}
 use native.Mathlib.Decide.{ℕ-discrete}
 use lib.ListN.{length, take, drop, take-append-drop}
-use Rattle.table.specs.declared.board.Board.{Board}
-use Rattle.table.specs.declared.trailer.Head.{Head}
-use Rattle.table.specs.declared.trailer.Headed.{Headed}
-use Rattle.table.specs.declared.trailer.Headed.the-variants.{Good, Bad}
+use Rattle.board.specs.declared.Board.{Board}
+use Rattle.trailer.specs.declared.Head.{Head}
+use Rattle.trailer.specs.declared.Headed.{Headed}
+use Rattle.trailer.specs.declared.Headed.the-variants.{Good, Bad}
+use Rattle.trailer.specs.Trailer.{trailerOf}
 use Rattle.table.specs.Refusals.{Row, firstDue, trailer-not-good}
-use Rattle.table.specs.Trailer.{trailerOf}
 use Rattle.table.specs.Calls.{Outcome, outcome, answered, after, onHeaded, onTable}
 use Rattle.table.proofs.CallLaws.{answered-done, answered-refused}
 use Rattle.router.specs.declared.moving.Moved.{Moved}

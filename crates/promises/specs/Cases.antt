@@ -15,7 +15,7 @@ use Rattle.network.specs.Packet.{Item, offer}
 use Rattle.mesh.specs.Grid.{node, xOf, yOf}
 use Rattle.mesh.specs.Mesh.{mesh}
 use Rattle.slots.specs.Slots.{slotAt}
-use Rattle.table.specs.Layout.{numberOf}
+use Rattle.board.specs.Layout.{numberOf}
 use Rattle.table.specs.Calls.{Outcome}
 use Rattle.router.specs.Clear.{asked}
 use Rattle.calls.specs.Slices.{headIn, boardIn, slotsIn, placeIn}

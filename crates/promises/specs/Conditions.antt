@@ -11,7 +11,7 @@ use Rattle.network.specs.declared.Lead.the-variants.{Hop, Turn, Out, NotOffered
 use Rattle.network.specs.Net.{at}
 use Rattle.network.specs.Packet.{GoodItem}
 use Rattle.slots.specs.Slots.{emptySlot}
-use Rattle.table.specs.Board.{publishedOn}
+use Rattle.board.specs.Board.{publishedOn}
 use Rattle.calls.specs.Slices.{headIn, boardIn, netIn, slotsIn, slotIn, placeIn, packetIn, heldIn}
 
 -- an empty slot is 16 zeros; a slot that isn't empty is held

@@ -10,20 +10,20 @@ use Rattle.network.specs.declared.Kind.the-variants.{Waiting}
 use Rattle.network.specs.declared.Lead.the-variants.{NotOffered}
 use Rattle.network.specs.Net.{at}
 use Rattle.slots.specs.Slots.{emptySlot}
-use Rattle.table.specs.declared.board.Board.{Board}
-use Rattle.table.specs.Board.{GoodBoard}
-use Rattle.table.specs.Layout.{tableSize}
+use Rattle.board.specs.declared.Board.{Board}
+use Rattle.board.specs.Board.{GoodBoard}
+use Rattle.board.specs.Layout.{tableSize}
+use Rattle.table.specs.Calls.{Outcome, outcome, after}
 use Rattle.router.specs.declared.moving.Moved.{Moved}
 use Rattle.router.specs.declared.taking.Taken.{Taken}
-use Rattle.table.specs.Calls.{Outcome, outcome, after}
 use Rattle.router.specs.Clear.{used}
 use Rattle.router.specs.ReadPayload.{Reading}
 use Rattle.survey.specs.Check.{CheckAnswer}
 use Rattle.survey.specs.Find.{FindAnswer}
 use Rattle.survey.specs.Copy.{CopyAnswer}
 use Rattle.calls.specs.Slices.{Bytes, headIn, GoodIn, netIn, slotsIn, placeIn}
-use Rattle.promises.specs.Conditions.{EmptyAt, SpoiledAt, IsCode, leadIn, HasEmpty, Room, FaultAt, NothingHeld}
 use Rattle.calls.specs.Router.{Router}
+use Rattle.promises.specs.Conditions.{EmptyAt, SpoiledAt, IsCode, leadIn, HasEmpty, Room, FaultAt, NothingHeld}
 
 -- the refusals of a call in the paper's order, each with its number and the condition that it is given for
 pub data Grounds : Type 1 where

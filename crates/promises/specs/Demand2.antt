@@ -12,15 +12,15 @@ use Rattle.network.specs.declared.Lead.the-variants.{Hop, Turn, Out, NotOffered
 use Rattle.network.specs.Net.{at}
 use Rattle.slots.specs.Bytes.{le32}
 use Rattle.slots.specs.Slots.{slotAt, emptySlot}
-use Rattle.table.specs.Trailer.{last16}
+use Rattle.trailer.specs.Trailer.{last16}
 use Rattle.table.specs.Carriage.{hop}
-use Rattle.router.specs.declared.moving.Moved.{Moved}
 use Rattle.table.specs.Calls.{Outcome}
+use Rattle.router.specs.declared.moving.Moved.{Moved}
 use Rattle.survey.specs.Copy.{withoutPayload}
 use Rattle.survey.specs.Secrecy.{Alike}
 use Rattle.calls.specs.Slices.{Bytes, headIn, GoodIn, beforeIn, slotsIn, slotIn, placeIn}
-use Rattle.promises.specs.Conditions.{EmptyAt, HeldAt, GoodAt, IsCode, leadIn, LowestOf, Room}
 use Rattle.calls.specs.Router.{Router}
+use Rattle.promises.specs.Conditions.{EmptyAt, HeldAt, GoodAt, IsCode, leadIn, LowestOf, Room}
 
 -- the slot holds a good packet, under a good trailer
 pub record GoodPacket (s : List ℕ) (slot : ℕ) : Type 0 where

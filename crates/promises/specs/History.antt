@@ -13,12 +13,12 @@ use Rattle.network.specs.declared.Lead.the-variants.{Hop, Turn, Out, NotOffered
 use Rattle.network.specs.Lists.{total, All}
 use Rattle.network.specs.Net.{Net}
 use Rattle.slots.specs.Bytes.{bytes32}
-use Rattle.table.specs.declared.board.Board.{Board}
+use Rattle.board.specs.declared.Board.{Board}
 use Rattle.table.specs.Packets.{packetOf}
 use Rattle.calls.specs.Slices.{Bytes, headIn, netIn, slotsIn, packetIn, heldIn}
-use Rattle.promises.specs.Conditions.{HeldAt, leadIn}
 use Rattle.calls.specs.Router.{Router}
 use Rattle.calls.specs.Calls.{Call, clears, takes, moves, looks, Handed, Given, leftBy, givenBy}
+use Rattle.promises.specs.Conditions.{HeldAt, leadIn}
 use Rattle.promises.specs.Demand3.{boundsIn}
 
 -- what a packet taken in is bound for: mark 1, source, destination, as many hops as the distance, the serial answered, the payload handed in

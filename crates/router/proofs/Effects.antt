@@ -24,18 +24,18 @@ use Rattle.network.proofs.Slots.{emptied}
 use Rattle.network.proofs.Tests.{clash}
 use Rattle.slots.specs.Slots.{slotAt, emptySlot}
 use Rattle.slots.proofs.SlotLaws.{length-slotAt}
-use Rattle.table.specs.declared.trailer.Head.{Head}
-use Rattle.table.specs.declared.trailer.Headed.the-variants.{Good}
-use Rattle.table.specs.Board.{netOf}
-use Rattle.table.specs.Layout.{layoutOf}
-use Rattle.table.specs.Trailer.{trailerOf, Sized, withDelivered}
+use Rattle.board.specs.Board.{netOf}
+use Rattle.board.specs.Layout.{layoutOf, Sized}
+use Rattle.board.proofs.BoardLaws.{slot-fits}
+use Rattle.trailer.specs.declared.Head.{Head}
+use Rattle.trailer.specs.declared.Headed.the-variants.{Good}
+use Rattle.trailer.specs.Trailer.{trailerOf, withDelivered}
+use Rattle.trailer.proofs.TrailerLaws.{table-sized}
+use Rattle.trailer.proofs.CountLaws.{delivering, trailer-withDelivered, length-withDelivered, slotAt-withDelivered}
 use Rattle.table.specs.Packets.{packetOf, slotOf, viewOf, itemIn}
 use Rattle.table.specs.Queues.{emptyAt, roomAt}
 use Rattle.table.specs.Carriage.{hop, vacated, carried}
 use Rattle.table.specs.Calls.{outcome}
-use Rattle.table.proofs.BoardLaws.{slot-fits}
-use Rattle.table.proofs.TrailerLaws.{table-sized}
-use Rattle.table.proofs.CountLaws.{delivering, trailer-withDelivered, length-withDelivered, slotAt-withDelivered}
 use Rattle.table.proofs.QueueLaws.{room-lowest, room-within, room-there}
 use Rattle.table.proofs.PacketLaws.{mark-not-zero, slot-held, slot-empty, packet-hop}
 use Rattle.table.proofs.CarriageLaws.{length-vacated, vacated-there, vacated-other, length-carried, carried-to, carried-else, trailer-vacated, trailer-carried}

@@ -16,19 +16,19 @@ use Rattle.network.specs.View.{held, itemAt}
 use Rattle.network.specs.Table.{Entered}
 use Rattle.slots.specs.Slots.{slotAt, withSlot}
 use Rattle.slots.proofs.SlotLaws.{length-withSlot, slotAt-same, slotAt-other}
-use Rattle.table.specs.declared.board.Board.{Board}
-use Rattle.table.specs.declared.trailer.Head.{Head}
-use Rattle.table.specs.declared.trailer.Headed.the-variants.{Good}
-use Rattle.table.specs.Board.{netOf}
-use Rattle.table.specs.Layout.{layoutOf}
-use Rattle.table.specs.Trailer.{Sized, trailerOf, withTaken}
+use Rattle.board.specs.declared.Board.{Board}
+use Rattle.board.specs.Board.{netOf}
+use Rattle.board.specs.Layout.{layoutOf, Sized}
+use Rattle.board.proofs.BoardLaws.{net-laws, slot-fits}
+use Rattle.trailer.specs.declared.Head.{Head}
+use Rattle.trailer.specs.declared.Headed.the-variants.{Good}
+use Rattle.trailer.specs.Trailer.{trailerOf, withTaken}
+use Rattle.trailer.proofs.TrailerLaws.{trailer-good, table-sized, trailer-withSlot}
+use Rattle.trailer.proofs.CountLaws.{taking, trailer-withTaken, length-withTaken, slotAt-withTaken}
 use Rattle.table.specs.Packets.{packetOf, slotOf, viewOf}
 use Rattle.table.specs.Calls.{outcome}
-use Rattle.table.proofs.BoardLaws.{net-laws, slot-fits}
 use Rattle.table.proofs.PacketLaws.{mark-not-zero, slot-held, slot-empty}
 use Rattle.table.proofs.QueueLaws.{room-lowest, room-there}
-use Rattle.table.proofs.TrailerLaws.{trailer-good, table-sized, trailer-withSlot}
-use Rattle.table.proofs.CountLaws.{taking, trailer-withTaken, length-withTaken, slotAt-withTaken}
 use Rattle.router.specs.TakeIn.{waitingRoom, newRecord, tookIn, takenIn}
 use Rattle.router.proofs.TakeLaws.{Welcome, takeDue, due-welcome, berth, berth-room, berth-within, taken-done, new-packet, length-newRecord}
 

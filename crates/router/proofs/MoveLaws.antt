@@ -15,11 +15,11 @@ use Rattle.network.specs.Net.{at}
 use Rattle.network.specs.Search.{numberAt}
 use Rattle.network.proofs.Tests.{clash, cond-false}
 use Rattle.network.proofs.SearchLaws.{at-some}
-use Rattle.table.specs.declared.board.Board.{Board}
-use Rattle.table.specs.declared.trailer.Head.{Head}
+use Rattle.board.specs.declared.Board.{Board}
+use Rattle.board.specs.Board.{netOf}
+use Rattle.board.specs.Layout.{layoutOf}
+use Rattle.trailer.specs.declared.Head.{Head}
 use Rattle.table.specs.Refusals.{Row, firstDue}
-use Rattle.table.specs.Board.{netOf}
-use Rattle.table.specs.Layout.{layoutOf}
 use Rattle.table.specs.Queues.{roomAt}
 use Rattle.table.specs.Calls.{Outcome, outcome}
 use Rattle.table.proofs.RefusalLaws.{passed}

@@ -10,14 +10,14 @@ use Rattle.network.specs.declared.Lead.{Lead}
 use Rattle.network.specs.declared.Lead.the-variants.{Hop, Turn, Out, NotOffered}
 use Rattle.network.specs.Packet.{GoodItem}
 use Rattle.network.proofs.Tests.{cond-false}
-use Rattle.table.specs.declared.trailer.Head.{Head}
+use Rattle.board.specs.Board.{GoodBoard, netOf}
+use Rattle.board.specs.Layout.{layoutOf}
+use Rattle.board.proofs.BoardLaws.{net-laws}
+use Rattle.trailer.specs.declared.Head.{Head}
 use Rattle.table.specs.Refusals.{Row, firstDue}
-use Rattle.table.specs.Board.{GoodBoard, netOf}
-use Rattle.table.specs.Layout.{layoutOf}
 use Rattle.table.specs.Packets.{itemIn, goodAt}
 use Rattle.table.specs.Queues.{emptyAt}
 use Rattle.table.proofs.RefusalLaws.{passed}
-use Rattle.table.proofs.BoardLaws.{net-laws}
 use Rattle.table.proofs.PacketLaws.{good-here}
 use Rattle.router.specs.Move.{slotRows, leadOf}
 use Rattle.router.specs.Verdicts.{slotDue, Targets}

@@ -7,7 +7,7 @@ use mathlib.Core.List.{List}
 use native.Mathlib.Omega.{arith}
 use Rattle.slots.specs.Bytes.{part}
 use Rattle.slots.specs.Slots.{slotAt}
-use Rattle.table.specs.declared.trailer.Head.{Head}
+use Rattle.trailer.specs.declared.Head.{Head}
 use Rattle.table.specs.Calls.{outcome}
 use Rattle.table.proofs.RefusalLaws.{accepted-by, refused-by}
 use Rattle.table.proofs.CallLaws.{answered-done, answered-refused}

@@ -19,10 +19,10 @@ use Rattle.network.proofs.Tests.{clash, cond-true, cond-false}
 use Rattle.network.proofs.SearchLaws.{at-some}
 use Rattle.slots.specs.Bytes.{bytes32}
 use Rattle.slots.proofs.Numbers.{digits}
-use Rattle.table.specs.declared.trailer.Head.{Head}
+use Rattle.board.specs.Board.{GoodBoard, netOf}
+use Rattle.board.specs.Layout.{layoutOf}
+use Rattle.trailer.specs.declared.Head.{Head}
 use Rattle.table.specs.Refusals.{firstDue}
-use Rattle.table.specs.Board.{GoodBoard, netOf}
-use Rattle.table.specs.Layout.{layoutOf}
 use Rattle.table.specs.Packets.{packetOf}
 use Rattle.table.specs.Calls.{outcome}
 use Rattle.table.proofs.QueueLaws.{room-within}

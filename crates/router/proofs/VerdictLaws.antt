@@ -18,11 +18,11 @@ use Rattle.network.specs.Net.{at}
 use Rattle.network.specs.Search.{isAt, numberAt}
 use Rattle.network.proofs.Tests.{clash, cond-true, cond-false}
 use Rattle.slots.specs.Slots.{slotAt, emptySlot}
-use Rattle.table.specs.declared.board.Board.{Board}
-use Rattle.table.specs.declared.trailer.Head.{Head}
+use Rattle.board.specs.declared.Board.{Board}
+use Rattle.board.specs.Board.{GoodBoard, netOf}
+use Rattle.board.specs.Layout.{layoutOf}
+use Rattle.trailer.specs.declared.Head.{Head}
 use Rattle.table.specs.Refusals.{firstDue, no-room}
-use Rattle.table.specs.Board.{GoodBoard, netOf}
-use Rattle.table.specs.Layout.{layoutOf}
 use Rattle.table.specs.Queues.{emptyAt, roomAt}
 use Rattle.table.specs.Carriage.{carried}
 use Rattle.table.specs.Calls.{Outcome, outcome}

@@ -6,11 +6,11 @@ use mathlib.Core.Bool.{not, cond}
 use mathlib.Core.List.{List, [], _∷_, _++_}
 use lib.Dec.{ltb, eqb}
 use lib.ListN.{length, take}
-use Rattle.table.specs.declared.board.Board.{Board}
+use Rattle.board.specs.declared.Board.{Board}
+use Rattle.board.specs.Board.{boardOk}
+use Rattle.board.specs.Layout.{tableSize}
+use Rattle.trailer.specs.Trailer.{fresh}
 use Rattle.table.specs.Refusals.{Row, row, sizes-not-accepted, wrong-length}
-use Rattle.table.specs.Board.{boardOk}
-use Rattle.table.specs.Layout.{tableSize}
-use Rattle.table.specs.Trailer.{fresh}
 use Rattle.table.specs.Calls.{Outcome, outcome, answered}
 
 -- the board asked for

@@ -12,12 +12,12 @@ use Rattle.network.specs.Net.{at}
 use Rattle.network.specs.Packet.{offer}
 use Rattle.network.specs.Search.{isAt, numberAt}
 use Rattle.slots.specs.Slots.{slotAt, emptySlot}
-use Rattle.table.specs.declared.board.Board.{Board}
-use Rattle.table.specs.declared.trailer.Head.{Head}
+use Rattle.board.specs.declared.Board.{Board}
+use Rattle.board.specs.Board.{netOf}
+use Rattle.board.specs.Layout.{layoutOf}
+use Rattle.trailer.specs.declared.Head.{Head}
+use Rattle.trailer.specs.Trailer.{withDelivered}
 use Rattle.table.specs.Refusals.{Row, row, firstDue, out-of-range, slot-empty, slot-spoiled, not-offered, no-room}
-use Rattle.table.specs.Board.{netOf}
-use Rattle.table.specs.Layout.{layoutOf}
-use Rattle.table.specs.Trailer.{withDelivered}
 use Rattle.table.specs.Packets.{itemIn, goodAt}
 use Rattle.table.specs.Queues.{emptyAt, roomAt}
 use Rattle.table.specs.Carriage.{vacated, carried}

@@ -11,10 +11,10 @@ use Rattle.network.specs.Net.{at}
 use Rattle.network.specs.Search.{isAt, numberAt}
 use Rattle.slots.specs.Bytes.{bytes32}
 use Rattle.slots.specs.Slots.{withSlot}
-use Rattle.table.specs.declared.trailer.Head.{Head}
+use Rattle.board.specs.Board.{netOf}
+use Rattle.trailer.specs.declared.Head.{Head}
+use Rattle.trailer.specs.Trailer.{withTaken}
 use Rattle.table.specs.Refusals.{Row, row, out-of-range, all-taken, no-room}
-use Rattle.table.specs.Board.{netOf}
-use Rattle.table.specs.Trailer.{withTaken}
 use Rattle.table.specs.Queues.{roomAt}
 use Rattle.table.specs.Calls.{Outcome, outcome, answered, onTable}
 use Rattle.router.specs.declared.taking.Taken.{Taken}

@@ -11,10 +11,10 @@ use Rattle.network.specs.declared.Place.{Place}
 use Rattle.network.specs.declared.Lead.{Lead}
 use Rattle.network.specs.declared.Lead.the-variants.{Hop, Turn, Out, NotOffered}
 use Rattle.network.specs.Net.{Net, at}
-use Rattle.table.specs.declared.board.Board.{Board}
-use Rattle.table.specs.declared.trailer.Head.{Head}
+use Rattle.board.specs.declared.Board.{Board}
+use Rattle.board.specs.Layout.{layoutOf}
+use Rattle.trailer.specs.declared.Head.{Head}
 use Rattle.table.specs.Refusals.{Row, firstDue, not-offered, no-room}
-use Rattle.table.specs.Layout.{layoutOf}
 use Rattle.table.specs.Queues.{roomAt}
 use Rattle.router.specs.declared.verdict.Verdict.{Verdict}
 use Rattle.router.specs.TakeIn.{takeRows, waitingRoom}

@@ -1,5 +1,5 @@
 // Clear: the slice's last part becomes a fresh table.
-use table::board::Board;
+use board::Board;
 ghost use mathlib.Core.Path.{_≡_};
 ghost use Rattle.table.specs.Calls.{outcome};
 ghost use Rattle.router.specs.Clear.{asked, depthUsed, clearedAs, clearedSlice};
@@ -19,15 +19,15 @@ fn depth_used(depth: u32) -> usize
 fn clear_as(s: &mut [u8], b: Board) -> u32
     ensures { λ r. ⌜ outcome r (now (s .exit)) ≡ clearedAs (now (s .entry)) b ⌝ }
 {
-    if !table::board::board_ok(b) {
+    if !board::board_ok(b) {
         return table::refusals::SIZES;
     }
-    let size = table::layout::table_size(b);
+    let size = board::layout::table_size(b);
     if s.len() < size {
         return table::refusals::BUFFER;
     }
     let start = s.len() - size;
-    table::trailer::clear_table(&mut s[start..], b);
+    trailer::clear_table(&mut s[start..], b);
     0
 }
 

@@ -1,15 +1,14 @@
 // The move: a proposed code for the packet of a slot. The verdict is read first; then the move does that one step.
 use crate::verdict::Verdict;
+use board::Board;
 use network::Lead;
 use network::Place;
-use table::board::Board;
-use table::trailer::Head;
-use table::trailer::Headed;
+use trailer::Head;
+use trailer::Headed;
 ghost use mathlib.Core.Path.{_≡_};
 ghost use Prim.Native.Nat.{_<_};
-ghost use Rattle.table.specs.Board.{netOf};
-ghost use Rattle.table.specs.Layout.{layoutOf};
-ghost use Rattle.table.specs.Trailer.{Sized};
+ghost use Rattle.board.specs.Board.{netOf};
+ghost use Rattle.board.specs.Layout.{layoutOf, Sized};
 ghost use Rattle.table.specs.Calls.{outcome};
 ghost use Rattle.router.specs.Move.{refusal, handedOut, movedIn, movedSlice};
 ghost use Rattle.router.specs.Verdicts.{ahead, moveVerdict, Targets};
@@ -63,7 +62,7 @@ pub fn judge(t: &[u8], h: Head, slot: u32, code: u32) -> Verdict
     ensures { λ r. ⌜ r ≡ moveVerdict h (now (t .entry)) slot code ⌝ }
 {
     let b = h.board;
-    if !table::board::is_code(b, code) {
+    if !board::is_code(b, code) {
         return crate::verdict::refuse(table::refusals::OUT_OF_RANGE);
     }
     let k = slot as usize;
@@ -71,9 +70,9 @@ pub fn judge(t: &[u8], h: Head, slot: u32, code: u32) -> Verdict
     if due != 0 {
         return crate::verdict::refuse(due);
     }
-    let here = table::layout::place_of(b, k);
+    let here = board::layout::place_of(b, k);
     let destination = slots::slot_byte(t, k, 2);
-    let lead = table::board::rule(b, here, destination, code);
+    let lead = board::rule(b, here, destination, code);
     go_ahead(t, b, here, lead)
 }
 
@@ -87,7 +86,7 @@ fn hand_out(t: &mut [u8], h: Head, slot: usize) -> Moved
     let b = h.board;
     let packet = slots::read_slot(t, slot);
     table::carriage::leave(t, b, slot);
-    table::trailer::put_delivered(t, h.delivered + 1);
+    trailer::put_delivered(t, h.delivered + 1);
     Moved {
         number: 0,
         slot: 0,
@@ -124,7 +123,7 @@ fn move_in_table(t: &mut [u8], h: Head, slot: u32, code: u32) -> Moved
 pub fn make_move(s: &mut [u8], slot: u32, code: u32) -> Moved
     ensures { λ r. ⌜ outcome r (now (s .exit)) ≡ movedSlice (now (s .entry)) slot code ⌝ }
 {
-    let Headed::Good(h) = table::trailer::trailer(s) else {
+    let Headed::Good(h) = trailer::trailer(s) else {
         return refused(table::refusals::TRAILER);
     };
     let size = h.size;

@@ -3,12 +3,12 @@ use crate::verdict::Verdict;
 use network::Kind;
 use network::Lowest;
 use network::Place;
-use table::trailer::Head;
-use table::trailer::Headed;
+use trailer::Head;
+use trailer::Headed;
 ghost use mathlib.Core.Path.{_≡_};
 ghost use mathlib.Core.Bool.{true};
-ghost use Rattle.table.specs.Board.{netOf};
-ghost use Rattle.table.specs.Trailer.{Sized};
+ghost use Rattle.board.specs.Board.{netOf};
+ghost use Rattle.board.specs.Layout.{Sized};
 ghost use Rattle.table.specs.Calls.{outcome};
 ghost use Rattle.router.specs.TakeIn.{refusal, waitingRoom, newRecord, takenIn, takenSlice};
 ghost use Rattle.router.specs.Verdicts.{takeVerdict};
@@ -51,10 +51,10 @@ fn judge_taking(t: &[u8], h: Head, source: u8, destination: u8) -> Verdict
     ensures { λ r. ⌜ r ≡ takeVerdict h (now (t .entry)) source destination ⌝ }
 {
     let b = h.board;
-    if !table::board::is_node(b, source) {
+    if !board::is_node(b, source) {
         return crate::verdict::refuse(table::refusals::OUT_OF_RANGE);
     }
-    if !table::board::is_node(b, destination) {
+    if !board::is_node(b, destination) {
         return crate::verdict::refuse(table::refusals::OUT_OF_RANGE);
     }
     if h.taken == 4294967295 {
@@ -106,7 +106,7 @@ fn take_in_table(t: &mut [u8], h: Head, source: u8, destination: u8, payload: [u
     let next = serial + 1;
     let packet = new_record(source, destination, serial, payload);
     slots::write_slot(t, slot, packet);
-    table::trailer::put_taken(t, next);
+    trailer::put_taken(t, next);
     Taken {
         number: 0,
         slot: slot as u32,
@@ -119,7 +119,7 @@ fn take_in_table(t: &mut [u8], h: Head, source: u8, destination: u8, payload: [u
 pub fn take_in(s: &mut [u8], source: u8, destination: u8, payload: [u8; 8]) -> Taken
     ensures { λ r. ⌜ outcome r (now (s .exit)) ≡ takenSlice (now (s .entry)) source destination payload ⌝ }
 {
-    let Headed::Good(h) = table::trailer::trailer(s) else {
+    let Headed::Good(h) = trailer::trailer(s) else {
         return refused(table::refusals::TRAILER);
     };
     let size = h.size;

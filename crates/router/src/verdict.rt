@@ -1,8 +1,8 @@
 // What a call that changes a table would do, judged before anything is written.
 use network::Lowest;
-use table::trailer::Head;
+use trailer::Head;
 ghost use mathlib.Core.Path.{_≡_};
-ghost use Rattle.table.specs.Trailer.{Sized};
+ghost use Rattle.board.specs.Layout.{Sized};
 ghost use Rattle.router.specs.Verdicts.{refusedBy, into, slotDue};
 
 // The number of the first refusal that is due, or 0 and what is done: the packet leaves, or goes to a slot with more hops.
@@ -45,7 +45,7 @@ pub fn slot_due(t: &[u8], h: Head, slot: usize) -> u32
     ensures { λ r. ⌜ r ≡ slotDue h (now (t .entry)) slot ⌝ }
 {
     let b = h.board;
-    if table::layout::slots_of(b) <= slot {
+    if board::layout::slots_of(b) <= slot {
         return table::refusals::OUT_OF_RANGE;
     }
     if slots::slot_empty(t, slot) {

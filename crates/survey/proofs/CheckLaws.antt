@@ -17,11 +17,11 @@ use Rattle.network.specs.declared.Lowest.the-variants.{At, Nowhere}
 use Rattle.network.specs.Search.{NoneWith}
 use Rattle.network.proofs.Tests.{and-both, and-yes, clash, neither}
 use Rattle.network.proofs.SearchLaws.{at-lowest, nowhere-none, none-nowhere}
-use Rattle.table.specs.declared.trailer.Head.{Head}
-use Rattle.table.specs.Board.{GoodBoard}
-use Rattle.table.specs.Layout.{layoutOf}
+use Rattle.board.specs.Board.{GoodBoard}
+use Rattle.board.specs.Layout.{layoutOf}
+use Rattle.board.proofs.BoardLaws.{slots-most}
+use Rattle.trailer.specs.declared.Head.{Head}
 use Rattle.table.specs.Packets.{goodAt}
-use Rattle.table.proofs.BoardLaws.{slots-most}
 use Rattle.survey.specs.declared.checking.Checked.the-variants.{Passes, FaultAt}
 use Rattle.survey.specs.Check.{
   heldAt,

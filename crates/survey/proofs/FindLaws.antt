@@ -13,10 +13,10 @@ use Rattle.network.specs.declared.Lowest.the-variants.{At, Nowhere}
 use Rattle.network.specs.Search.{lowestWith, isAt, numberAt, IsLowest}
 use Rattle.network.proofs.Tests.{clash}
 use Rattle.network.proofs.SearchLaws.{at-some, at-none, at-lowest, nowhere-none, none-nowhere}
-use Rattle.table.specs.declared.trailer.Head.{Head}
-use Rattle.table.specs.Board.{netOf}
-use Rattle.table.specs.Layout.{layoutOf}
-use Rattle.table.proofs.BoardLaws.{net-laws}
+use Rattle.board.specs.Board.{netOf}
+use Rattle.board.specs.Layout.{layoutOf}
+use Rattle.board.proofs.BoardLaws.{net-laws}
+use Rattle.trailer.specs.declared.Head.{Head}
 use Rattle.router.specs.Move.{moveDue}
 use Rattle.router.proofs.MoveLaws.{due-granted}
 use Rattle.survey.specs.declared.finding.Found.the-variants.{Move, NothingHeld}

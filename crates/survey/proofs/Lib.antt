@@ -1,4 +1,3 @@
-pub mod FilterLaws
 pub mod CheckLaws
 pub mod MetLaws
 pub mod Meaning

@@ -17,15 +17,15 @@ use Rattle.network.specs.View.{seen, contents}
 use Rattle.network.proofs.Lists.{all-collect, collect-all, all-images, images-all}
 use Rattle.network.proofs.Course.{means-good}
 use Rattle.network.proofs.Tests.{and-yes, and-no}
+use Rattle.network.specs.declared.Lowest.the-variants.{Nowhere}
 use Rattle.slots.specs.Slots.{slotAt, zeros}
-use Rattle.table.specs.declared.trailer.Head.{Head}
-use Rattle.table.specs.Board.{GoodBoard, netOf}
-use Rattle.table.specs.Layout.{layoutOf}
+use Rattle.board.specs.Board.{GoodBoard, netOf}
+use Rattle.board.specs.Layout.{layoutOf}
+use Rattle.trailer.specs.declared.Head.{Head}
 use Rattle.table.specs.Packets.{slotOf, viewOf, itemIn, goodAt}
 use Rattle.table.proofs.PacketLaws.{good-here}
 use Rattle.survey.specs.Check.{heldAt, serialAt, spoiledAt, hasSerial, repeatsAt, heldBelow, faultIn}
 use Rattle.survey.proofs.CheckLaws.{fault-none, held-good, none-fault, unused-serial, serial-unused}
-use Rattle.network.specs.declared.Lowest.the-variants.{Nowhere}
 
 module _ (h : Head) (t : List ℕ) where
   -- what slot i adds to the packets that the table holds

@@ -9,10 +9,11 @@ use native.Mathlib.Nat.{not-suc-le-zero}
 use lib.ListN.{getD, replicate}
 use borrow.Author.Count.{below-more}
 use Rattle.network.proofs.Tests.{clash}
+use Rattle.filter.specs.Flags.{flagAt, raised}
+use Rattle.filter.proofs.FlagLaws.{raised-full, raised-bytes, raised-up, raised-kept}
 use Rattle.survey.specs.Check.{heldAt, serialAt, hasSerial}
-use Rattle.survey.specs.Filter.{flagAt, raised, Met}
+use Rattle.survey.specs.Met.{Met}
 use Rattle.survey.proofs.CheckLaws.{unused-serial}
-use Rattle.survey.proofs.FilterLaws.{raised-full, raised-bytes, raised-up, raised-kept}
 
 module _ {t flags : List ℕ} {k : ℕ} (m : Met t flags k) where
   -- a flag that is down tells that no held slot below has the serial

@@ -11,12 +11,12 @@ use lib.Seq.{drop-at}
 use Rattle.slots.specs.Bytes.{le32}
 use Rattle.slots.specs.Slots.{zeros}
 use Rattle.slots.proofs.SlotLaws.{slots-ext}
-use Rattle.table.specs.declared.trailer.Head.{Head}
-use Rattle.table.specs.declared.trailer.Headed.{Headed}
-use Rattle.table.specs.declared.trailer.Headed.the-variants.{Good, Bad}
-use Rattle.table.specs.Trailer.{trailerOf, last16}
-use Rattle.table.specs.Layout.{layoutOf}
-use Rattle.table.proofs.TrailerLaws.{table-sized, trailer-good, trailer-same, trailer-before}
+use Rattle.board.specs.Layout.{layoutOf}
+use Rattle.trailer.specs.declared.Head.{Head}
+use Rattle.trailer.specs.declared.Headed.{Headed}
+use Rattle.trailer.specs.declared.Headed.the-variants.{Good, Bad}
+use Rattle.trailer.specs.Trailer.{trailerOf, last16}
+use Rattle.trailer.proofs.TrailerLaws.{table-sized, trailer-good, trailer-same, trailer-before}
 use Rattle.table.specs.Calls.{outcome}
 use Rattle.survey.specs.declared.checking.Checked.the-variants.{Passes, BadTrailer, FaultAt}
 use Rattle.survey.specs.declared.copying.Copied.the-variants as copied

@@ -8,10 +8,10 @@ use lib.ListN.{take}
 use Rattle.network.specs.Packet.{good}
 use Rattle.network.proofs.SearchLaws.{lowest-same}
 use Rattle.slots.specs.Slots.{slotAt, zeros}
-use Rattle.table.specs.declared.trailer.Head.{Head}
+use Rattle.board.specs.Board.{netOf}
+use Rattle.board.specs.Layout.{layoutOf}
+use Rattle.trailer.specs.declared.Head.{Head}
 use Rattle.table.specs.declared.packets.Fields.{Fields}
-use Rattle.table.specs.Board.{netOf}
-use Rattle.table.specs.Layout.{layoutOf}
 use Rattle.table.specs.Packets.{goodAt, fieldsOf, itemBy}
 use Rattle.table.proofs.PacketLaws.{fields-same, good-by}
 use Rattle.survey.specs.Check.{serialAt, spoiledAt, firstSpoiled, hasSerial, repeatsAt, firstRepeat, heldBelow, miscount, faultIn}

@@ -11,12 +11,12 @@ use lib.ListN.{length, getD, take}
 use Rattle.network.specs.declared.Lowest.the-variants.{Nowhere}
 use Rattle.slots.specs.Slots.{slotAt, zeros}
 use Rattle.slots.proofs.SlotLaws.{length-slotAt}
-use Rattle.table.specs.declared.trailer.Head.{Head}
-use Rattle.table.specs.declared.trailer.Headed.the-variants.{Good}
-use Rattle.table.specs.Trailer.{trailerOf}
-use Rattle.table.specs.Layout.{layoutOf}
+use Rattle.board.specs.Layout.{layoutOf}
+use Rattle.trailer.specs.declared.Head.{Head}
+use Rattle.trailer.specs.declared.Headed.the-variants.{Good}
+use Rattle.trailer.specs.Trailer.{trailerOf}
+use Rattle.trailer.proofs.TrailerLaws.{table-sized, trailer-same}
 use Rattle.table.proofs.PacketLaws.{good-here}
-use Rattle.table.proofs.TrailerLaws.{table-sized, trailer-same}
 use Rattle.survey.specs.Check.{heldAt, faultIn}
 use Rattle.survey.specs.Copy.{withoutPayload, veiled}
 use Rattle.survey.proofs.CheckLaws.{held-good}

@@ -11,12 +11,12 @@ use Rattle.network.specs.declared.Lowest.the-variants.{At, Nowhere}
 use Rattle.network.specs.Search.{lowestWith}
 use Rattle.slots.specs.Bytes.{le32}
 use Rattle.slots.specs.Slots.{slotAt}
-use Rattle.table.specs.declared.trailer.Head.{Head}
-use Rattle.table.specs.declared.trailer.Headed.{Headed}
-use Rattle.table.specs.declared.trailer.Headed.the-variants.{Good, Bad}
+use Rattle.board.specs.Layout.{layoutOf}
+use Rattle.trailer.specs.declared.Head.{Head}
+use Rattle.trailer.specs.declared.Headed.{Headed}
+use Rattle.trailer.specs.declared.Headed.the-variants.{Good, Bad}
+use Rattle.trailer.specs.Trailer.{trailerOf}
 use Rattle.table.specs.Refusals.{trailer-not-good, check-failed}
-use Rattle.table.specs.Layout.{layoutOf}
-use Rattle.table.specs.Trailer.{trailerOf}
 use Rattle.table.specs.Packets.{goodAt}
 use Rattle.table.specs.Queues.{emptyAt}
 use Rattle.survey.specs.declared.checking.CheckAnswer as declared

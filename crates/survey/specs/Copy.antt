@@ -6,9 +6,9 @@ use mathlib.Core.List.{List, _++_}
 use mathlib.Core.Bool.{cond}
 use lib.Dec.{eqb}
 use lib.ListN.{length, take, drop, replicate}
-use Rattle.table.specs.declared.trailer.Head.{Head}
+use Rattle.board.specs.Layout.{layoutOf}
+use Rattle.trailer.specs.declared.Head.{Head}
 use Rattle.table.specs.Refusals.{trailer-not-good, check-failed, wrong-length}
-use Rattle.table.specs.Layout.{layoutOf}
 use Rattle.table.specs.Calls.{Outcome, outcome}
 use Rattle.survey.specs.declared.copying.CopyAnswer as declared
 use Rattle.survey.specs.declared.copying.Copied.{Copied}

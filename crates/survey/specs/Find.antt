@@ -7,10 +7,10 @@ use lib.Dec.{eqb}
 use Rattle.network.specs.declared.Lowest.{Lowest}
 use Rattle.network.specs.declared.Lowest.the-variants.{At, Nowhere}
 use Rattle.network.specs.Search.{lowestWith, isAt, numberAt}
-use Rattle.table.specs.declared.trailer.Head.{Head}
+use Rattle.board.specs.Board.{netOf}
+use Rattle.board.specs.Layout.{layoutOf}
+use Rattle.trailer.specs.declared.Head.{Head}
 use Rattle.table.specs.Refusals.{trailer-not-good, check-failed, nothing-held}
-use Rattle.table.specs.Board.{netOf}
-use Rattle.table.specs.Layout.{layoutOf}
 use Rattle.router.specs.Move.{moveDue}
 use Rattle.survey.specs.declared.finding.FindAnswer as declared
 use Rattle.survey.specs.declared.finding.Found.{Found}

@@ -1,5 +1,5 @@
 pub mod Check
-pub mod Filter
+pub mod Met
 pub mod Find
 pub mod Copy
 pub mod Secrecy

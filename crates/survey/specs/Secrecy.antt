@@ -8,8 +8,8 @@ use mathlib.Core.Bool.{false}
 use lib.ListN.{length, take, drop}
 use Rattle.slots.specs.Bytes.{le32}
 use Rattle.slots.specs.Slots.{slotAt, zeros}
-use Rattle.table.specs.declared.trailer.Headed.the-variants.{Bad}
-use Rattle.table.specs.Trailer.{trailerOf}
+use Rattle.trailer.specs.declared.Headed.the-variants.{Bad}
+use Rattle.trailer.specs.Trailer.{trailerOf}
 
 -- a slot's bytes in two tables: the same, or held in both and the same but for the payload
 abbrev pub SameButPayload : List ℕ → List ℕ → Type 0

@@ -1,14 +1,13 @@
 // The full check: it names its first fault.
 use network::Lowest;
-use table::trailer::Head;
-use table::trailer::Headed;
+use trailer::Head;
+use trailer::Headed;
 ghost use mathlib.Core.Path.{_≡_};
 ghost use Prim.Native.Nat.{_+_, _*_, _≤_, _<_};
 ghost use lib.ListN.{length};
-ghost use Rattle.table.specs.Trailer.{Sized};
-ghost use Rattle.table.specs.Layout.{layoutOf};
+ghost use Rattle.board.specs.Layout.{layoutOf, Sized};
 ghost use Rattle.survey.specs.Check.{heldAt, spoiledAt, firstSpoiled, hasSerial, repeatsAt, firstRepeat, heldBelow, miscount, faultIn, checkedIn, checkedSlice, checkAnswer};
-ghost use Rattle.survey.specs.Filter.{Met};
+ghost use Rattle.survey.specs.Met.{Met};
 
 pub enum Checked {
     Passes,
@@ -65,7 +64,7 @@ fn first_spoiled(t: &[u8], h: Head) -> Lowest
     ensures { λ r. ⌜ r ≡ firstSpoiled h (now (t .entry)) ⌝ }
 {
     let b = h.board;
-    let n = table::layout::slots_of(b);
+    let n = board::layout::slots_of(b);
     let mut k = 0;
     while k < n {
         if spoiled(t, h, k) {
@@ -105,10 +104,10 @@ fn repeats(t: &[u8], flags: &mut [u8; 512], k: usize) -> bool
     }
     let serial = slots::slot_serial(t, k);
     let b = (serial % 4096) as usize;
-    if crate::filter::flag(flags, b) {
+    if filter::flag(flags, b) {
         return has_serial(t, serial, k);
     }
-    crate::filter::raise(flags, b);
+    filter::raise(flags, b);
     false
 }
 
@@ -118,7 +117,7 @@ fn first_repeat(t: &[u8], h: Head) -> Lowest
     ensures { λ r. ⌜ r ≡ firstRepeat h (now (t .entry)) ⌝ }
 {
     let b = h.board;
-    let n = table::layout::slots_of(b);
+    let n = board::layout::slots_of(b);
     let mut flags = [0u8; 512];
     let mut k = 0;
     while k < n {
@@ -153,7 +152,7 @@ fn miscounted(t: &[u8], h: Head) -> Lowest
     ensures { λ r. ⌜ r ≡ miscount h (now (t .entry)) ⌝ }
 {
     let b = h.board;
-    let n = table::layout::slots_of(b);
+    let n = board::layout::slots_of(b);
     let outstanding = (h.taken - h.delivered) as usize;
     if outstanding == held_below(t, n) {
         return Lowest::Nowhere;
@@ -195,7 +194,7 @@ fn check_table(t: &[u8], h: Head) -> Checked
 pub fn full_check(s: &[u8]) -> Checked
     ensures { λ r. ⌜ r ≡ checkedSlice (now (s .entry)) ⌝ }
 {
-    let Headed::Good(h) = table::trailer::trailer(s) else {
+    let Headed::Good(h) = trailer::trailer(s) else {
         return Checked::BadTrailer;
     };
     let size = h.size;

@@ -1,12 +1,12 @@
 // Outward copy: the table for outsiders, with every payload zero.
 use network::Lowest;
-use table::trailer::Head;
-use table::trailer::Headed;
+use trailer::Head;
+use trailer::Headed;
 ghost use mathlib.Core.Path.{_≡_};
 ghost use Prim.Native.Nat.{_+_, _*_, _≤_};
 ghost use lib.ListN.{length};
 ghost use Rattle.slots.specs.Slots.{slotAt};
-ghost use Rattle.table.specs.Trailer.{Sized};
+ghost use Rattle.board.specs.Layout.{Sized};
 ghost use Rattle.table.specs.Calls.{outcome};
 ghost use Rattle.survey.specs.Copy.{withoutPayload, veiled, copiedIn, copiedUnless, copiedSlice, copyAnswer};
 
@@ -95,7 +95,7 @@ fn copy_passing(t: &[u8], h: Head, out: &mut [u8]) -> Copied
         return Copied::WrongLength;
     }
     let b = h.board;
-    veil(t, table::layout::slots_of(b), out);
+    veil(t, board::layout::slots_of(b), out);
     Copied::Done
 }
 
@@ -115,7 +115,7 @@ fn copy_table(t: &[u8], h: Head, out: &mut [u8]) -> Copied
 pub fn copy_outward(s: &[u8], out: &mut [u8]) -> Copied
     ensures { λ r. ⌜ outcome r (now (out .exit)) ≡ copiedSlice (now (s .entry)) (now (out .entry)) ⌝ }
 {
-    let Headed::Good(h) = table::trailer::trailer(s) else {
+    let Headed::Good(h) = trailer::trailer(s) else {
         return Copied::BadTrailer;
     };
     let size = h.size;

@@ -1,10 +1,10 @@
 // Find: the lowest slot, and for it the lowest code, whose move would be accepted.
 use network::Lowest;
-use table::trailer::Head;
-use table::trailer::Headed;
+use trailer::Head;
+use trailer::Headed;
 ghost use mathlib.Core.Path.{_≡_};
 ghost use Prim.Native.Nat.{_≤_};
-ghost use Rattle.table.specs.Trailer.{Sized};
+ghost use Rattle.board.specs.Layout.{Sized};
 ghost use Rattle.survey.specs.Find.{firstCode, foundIn, foundUnless, foundSlice, findAnswer};
 
 pub enum Found {
@@ -54,7 +54,7 @@ fn first_code(t: &[u8], h: Head, slot: u32) -> Lowest
     ensures { λ r. ⌜ r ≡ firstCode h (now (t .entry)) slot ⌝ }
 {
     let b = h.board;
-    let end = table::board::last_code(b) + 1;
+    let end = board::last_code(b) + 1;
     let mut code: u32 = 0;
     while code < end {
         let v = router::moving::judge(t, h, slot, code);
@@ -73,7 +73,7 @@ pub fn first_move(t: &[u8], h: Head) -> Found
     ensures { λ r. ⌜ r ≡ foundIn h (now (t .entry)) ⌝ }
 {
     let b = h.board;
-    let n = table::layout::slots_of(b) as u32;
+    let n = board::layout::slots_of(b) as u32;
     let mut slot: u32 = 0;
     while slot < n {
         let c = first_code(t, h, slot);
@@ -101,7 +101,7 @@ fn find_in_table(t: &[u8], h: Head) -> Found
 pub fn find(s: &[u8]) -> Found
     ensures { λ r. ⌜ r ≡ foundSlice (now (s .entry)) ⌝ }
 {
-    let Headed::Good(h) = table::trailer::trailer(s) else {
+    let Headed::Good(h) = trailer::trailer(s) else {
         return Found::BadTrailer;
     };
     let size = h.size;

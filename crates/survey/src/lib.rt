@@ -1,7 +1,6 @@
 // Document 01's calls that judge a whole table.
 pub mod checking;
 pub mod copying;
-mod filter;
 pub mod finding;
 
 pub use checking::full_check;

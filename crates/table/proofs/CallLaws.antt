@@ -10,11 +10,12 @@ use native.Mathlib.Decide.{ℕ-discrete}
 use lib.ListN.{length, take, drop}
 use borrow.Rule.Slice.PartMut.{putMid}
 use Rattle.slots.proofs.Parts.{lent-rest, rest-back}
-use Rattle.table.specs.declared.trailer.Head.{Head}
-use Rattle.table.specs.declared.trailer.Headed.the-variants.{Good, Bad}
-use Rattle.table.specs.Trailer.{trailerOf, Sized}
+use Rattle.board.specs.Layout.{Sized}
+use Rattle.trailer.specs.declared.Head.{Head}
+use Rattle.trailer.specs.declared.Headed.the-variants.{Good, Bad}
+use Rattle.trailer.specs.Trailer.{trailerOf}
+use Rattle.trailer.proofs.TrailerLaws.{trailer-good, trailer-sized}
 use Rattle.table.proofs.RefusalLaws.{accepted-by, refused-by}
-use Rattle.table.proofs.TrailerLaws.{trailer-good, trailer-sized}
 use Rattle.table.specs.Refusals.{Row, firstDue, trailer-not-good}
 use Rattle.table.specs.Calls.{Outcome, outcome, answered, after, onHeaded, onTable}
 

@@ -8,14 +8,14 @@ use native.Mathlib.Omega.{arith}
 use lib.ListN.{length, getD, drop, length-set}
 use Rattle.slots.specs.Slots.{slotAt, emptySlot}
 use Rattle.slots.proofs.SlotLaws.{length-slotAt, length-withSlot, slotAt-same, slotAt-other, drop-withSlot}
-use Rattle.table.specs.declared.board.Board.{Board}
-use Rattle.table.specs.declared.trailer.Head.{Head}
-use Rattle.table.specs.declared.trailer.Headed.the-variants.{Good}
-use Rattle.table.specs.Trailer.{trailerOf}
-use Rattle.table.specs.Layout.{layoutOf}
+use Rattle.board.specs.declared.Board.{Board}
+use Rattle.board.specs.Layout.{layoutOf}
+use Rattle.board.proofs.BoardLaws.{slot-fits}
+use Rattle.trailer.specs.declared.Head.{Head}
+use Rattle.trailer.specs.declared.Headed.the-variants.{Good}
+use Rattle.trailer.specs.Trailer.{trailerOf}
+use Rattle.trailer.proofs.TrailerLaws.{table-sized, trailer-withSlot}
 use Rattle.table.specs.Carriage.{hop, vacated, carried}
-use Rattle.table.proofs.BoardLaws.{slot-fits}
-use Rattle.table.proofs.TrailerLaws.{table-sized, trailer-withSlot}
 
 pub length-hop : (v : List ℕ) (more : ℕ) → length (hop v more) ≡ length v
 length-hop v more = length-set v 3 (getD v 3 0 + more)

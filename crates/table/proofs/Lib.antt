@@ -1,11 +1,4 @@
 pub mod RefusalLaws
-pub mod Sizes
-pub mod Places
-pub mod BoardLaws
-pub mod TrailerLaws
-pub mod TrailerTold
-pub mod CountLaws
-pub mod FreshLaws
 pub mod CallLaws
 pub mod PacketLaws
 pub mod QueueLaws

@@ -21,12 +21,12 @@ use Rattle.slots.specs.Bytes.{part}
 use Rattle.slots.specs.Slots.{slotAt, zeros}
 use Rattle.slots.proofs.Parts.{part-part}
 use Rattle.slots.proofs.Numbers.{le32-same}
-use Rattle.table.specs.declared.trailer.Head.{Head}
-use Rattle.table.specs.Board.{GoodBoard, netOf}
-use Rattle.table.specs.Layout.{layoutOf}
+use Rattle.board.specs.Board.{GoodBoard, netOf}
+use Rattle.board.specs.Layout.{layoutOf}
+use Rattle.board.proofs.BoardLaws.{layout-laws, valid-byte, place-byte, distance-byte}
+use Rattle.trailer.specs.declared.Head.{Head}
 use Rattle.table.specs.Packets.{packetOf, slotOf, itemIn, goodAt, fieldsOf, packetBy, itemBy}
 use Rattle.table.specs.Carriage.{hop}
-use Rattle.table.proofs.BoardLaws.{layout-laws, valid-byte, place-byte, distance-byte}
 
 -- the fields are read of the first eight bytes
 pub fields-same : (v w : List ℕ) → take 8 v ≡ take 8 w → fieldsOf v ≡ fieldsOf w

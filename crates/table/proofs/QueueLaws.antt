@@ -9,11 +9,11 @@ use Rattle.network.specs.declared.Lowest.the-variants.{At}
 use Rattle.network.specs.declared.Place.{Place}
 use Rattle.network.specs.Search.{IsLowest}
 use Rattle.network.proofs.SearchLaws.{at-lowest}
-use Rattle.table.specs.declared.board.Board.{Board}
-use Rattle.table.specs.Board.{GoodBoard, netOf}
-use Rattle.table.specs.Layout.{layoutOf}
+use Rattle.board.specs.declared.Board.{Board}
+use Rattle.board.specs.Board.{GoodBoard, netOf}
+use Rattle.board.specs.Layout.{layoutOf}
+use Rattle.board.proofs.BoardLaws.{layout-laws, queue-within}
 use Rattle.table.specs.Queues.{emptyAt, roomAt}
-use Rattle.table.proofs.BoardLaws.{layout-laws, queue-within}
 
 module _ (b : Board) (t : List ℕ) (p : Place) (k : ℕ) (e : roomAt b t p ≡ At k) where
   pub room-lowest : IsLowest (emptyAt t) (layoutOf b .first p) (layoutOf b .room (p .kind)) k

@@ -5,11 +5,11 @@ use mathlib.Core.Bool.{cond}
 use mathlib.Core.List.{List, _++_}
 use lib.Dec.{eqb}
 use lib.ListN.{length, take, drop}
-use Rattle.table.specs.declared.trailer.Head.{Head}
-use Rattle.table.specs.declared.trailer.Headed.{Headed}
-use Rattle.table.specs.declared.trailer.Headed.the-variants.{Good, Bad}
+use Rattle.trailer.specs.declared.Head.{Head}
+use Rattle.trailer.specs.declared.Headed.{Headed}
+use Rattle.trailer.specs.declared.Headed.the-variants.{Good, Bad}
+use Rattle.trailer.specs.Trailer.{trailerOf}
 use Rattle.table.specs.Refusals.{Row, firstDue, trailer-not-good}
-use Rattle.table.specs.Trailer.{trailerOf}
 
 pub record Outcome (A B : Type 0) : Type 0 where
   pub answer : A

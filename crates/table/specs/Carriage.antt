@@ -5,7 +5,7 @@ use Prim.Native.Nat.{ℕ, _+_}
 use mathlib.Core.List.{List}
 use lib.ListN.{getD, set}
 use Rattle.slots.specs.Slots.{slotAt, withSlot, emptySlot}
-use Rattle.table.specs.declared.board.Board.{Board}
+use Rattle.board.specs.declared.Board.{Board}
 
 -- a packet's bytes with more hops made
 abbrev pub hop : List ℕ → ℕ → List ℕ

@@ -10,11 +10,11 @@ use Rattle.network.specs.Packet.{Packet, Item, good}
 use Rattle.network.specs.View.{Slot, empty, held, View, itemAt}
 use Rattle.slots.specs.Bytes.{part, le32}
 use Rattle.slots.specs.Slots.{slotAt, zeros}
-use Rattle.table.specs.declared.board.Board.{Board}
-use Rattle.table.specs.declared.trailer.Head.{Head}
+use Rattle.board.specs.declared.Board.{Board}
+use Rattle.board.specs.Board.{netOf}
+use Rattle.board.specs.Layout.{layoutOf}
+use Rattle.trailer.specs.declared.Head.{Head}
 use Rattle.table.specs.declared.packets.Fields.{Fields}
-use Rattle.table.specs.Board.{netOf}
-use Rattle.table.specs.Layout.{layoutOf}
 
 -- what 16 bytes say
 abbrev pub packetOf : List ℕ → Packet

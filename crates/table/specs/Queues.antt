@@ -7,8 +7,8 @@ use Rattle.network.specs.declared.Lowest.{Lowest}
 use Rattle.network.specs.declared.Place.{Place}
 use Rattle.network.specs.Search.{lowestWith}
 use Rattle.slots.specs.Slots.{slotAt, zeros}
-use Rattle.table.specs.declared.board.Board.{Board}
-use Rattle.table.specs.Layout.{layoutOf}
+use Rattle.board.specs.declared.Board.{Board}
+use Rattle.board.specs.Layout.{layoutOf}
 
 abbrev pub emptyAt : List ℕ → ℕ → Bool
 emptyAt t k = zeros (slotAt t k)

@@ -1,5 +1,5 @@
 // A packet carried from slot to slot, and what leaving a slot does.
-use crate::board::Board;
+use board::Board;
 ghost use mathlib.Core.Path.{_≡_};
 ghost use mathlib.Core.Logic.{_≢_};
 ghost use Prim.Native.Nat.{_+_, _*_, _≤_, _<_};

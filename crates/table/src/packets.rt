@@ -1,16 +1,15 @@
 // What a held slot says, and whether it is good.
-use crate::board::Board;
-use crate::trailer::Head;
+use board::Board;
 use network::Kind;
 use network::Place;
+use trailer::Head;
 ghost use mathlib.Core.Path.{_≡_};
 ghost use Prim.Native.Nat.{_+_, _*_, _≤_, _<_};
 ghost use lib.ListN.{length};
-ghost use Rattle.slots.specs.Slots.{slotAt};
 ghost use Rattle.network.specs.Packet.{fitsKind, good};
-ghost use Rattle.table.specs.Trailer.{Sized};
-ghost use Rattle.table.specs.Board.{netOf};
-ghost use Rattle.table.specs.Layout.{layoutOf};
+ghost use Rattle.slots.specs.Slots.{slotAt};
+ghost use Rattle.board.specs.Board.{netOf};
+ghost use Rattle.board.specs.Layout.{layoutOf, Sized};
 ghost use Rattle.table.specs.Packets.{fieldsOf, packetBy, courseOk, itemBy, goodAt};
 
 // A packet's record but its payload.
@@ -46,7 +45,7 @@ fn fits_kind(b: Board, here: Place, f: Fields) -> bool
     match kind {
         Kind::Waiting => source == node,
         Kind::A => true,
-        Kind::B => crate::board::settled(b, node, destination),
+        Kind::B => board::settled(b, node, destination),
     }
 }
 
@@ -55,11 +54,11 @@ fn course_ok(b: Board, here: u8, f: Fields) -> bool
     ensures { λ r. ⌜ r ≡ courseOk b here f ⌝ }
 {
     let hops = f.hops as u32;
-    if hops != crate::board::distance(b, f.source, here) {
+    if hops != board::distance(b, f.source, here) {
         return false;
     }
-    let ahead = crate::board::distance(b, here, f.destination);
-    hops + ahead == crate::board::distance(b, f.source, f.destination)
+    let ahead = board::distance(b, here, f.destination);
+    hops + ahead == board::distance(b, f.source, f.destination)
 }
 
 // Is a packet with this record good in that place?
@@ -70,10 +69,10 @@ pub fn good_in(h: Head, here: Place, f: Fields) -> bool
     if f.mark != 1 {
         return false;
     }
-    if !crate::board::is_node(b, f.source) {
+    if !board::is_node(b, f.source) {
         return false;
     }
-    if !crate::board::is_node(b, f.destination) {
+    if !board::is_node(b, f.destination) {
         return false;
     }
     if h.taken <= f.serial {
@@ -95,5 +94,5 @@ pub fn good_at(t: &[u8], h: Head, k: usize) -> bool
     ensures { λ r. ⌜ r ≡ goodAt h (now (t .entry)) k ⌝ }
 {
     let b = h.board;
-    good_in(h, crate::layout::place_of(b, k), read_fields(t, k))
+    good_in(h, board::layout::place_of(b, k), read_fields(t, k))
 }

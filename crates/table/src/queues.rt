@@ -1,5 +1,5 @@
 // The lowest empty slot of a queue.
-use crate::board::Board;
+use board::Board;
 use network::Lowest;
 use network::Place;
 ghost use mathlib.Core.Path.{_≡_};
@@ -7,8 +7,8 @@ ghost use mathlib.Core.Bool.{true};
 ghost use Prim.Native.Nat.{_+_, _*_, _≤_};
 ghost use lib.ListN.{length};
 ghost use Rattle.network.specs.Search.{lowestWith};
-ghost use Rattle.table.specs.Board.{netOf};
-ghost use Rattle.table.specs.Trailer.{Sized};
+ghost use Rattle.board.specs.Board.{netOf};
+ghost use Rattle.board.specs.Layout.{Sized};
 ghost use Rattle.table.specs.Queues.{emptyAt, roomAt};
 
 // The lowest empty slot of the `count` slots from slot `from`.
@@ -36,7 +36,7 @@ pub fn room_at(t: &[u8], b: Board, p: Place) -> Lowest
     let kind = p.kind;
     lowest_empty(
         t,
-        crate::layout::first_slot(b, p),
-        crate::layout::room_of(b, kind),
+        board::layout::first_slot(b, p),
+        board::layout::room_of(b, kind),
     )
 }

@@ -2,9 +2,9 @@
 -- Assumes nothing.
 use mathlib.Core.Path.{_≡_, sym, _∙_}
 use borrow.Author.Needs.{needs}
-use Rattle.table.specs.declared.trailer.Headed.the-variants.{Good}
-use Rattle.table.specs.Trailer.{trailerOf}
-use Rattle.table.proofs.TrailerLaws.{trailer-good}
+use Rattle.trailer.specs.declared.Headed.the-variants.{Good}
+use Rattle.trailer.specs.Trailer.{trailerOf}
+use Rattle.trailer.proofs.TrailerLaws.{trailer-good}
 use Rattle.table.proofs.CallLaws.{start-in, lent-sized}
 use Rattle.listing.specs.Output.{refusalLine, listing}
 use Rattle.listing.proofs.OutputLaws.{listing-long, listing-bad, listing-lent}

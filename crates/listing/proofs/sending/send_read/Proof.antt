@@ -6,8 +6,8 @@ use native.Mathlib.Omega.{arith}
 use borrow.Author.Needs.{needs}
 use lib.ListN.{length, take-append-drop}
 use lib.Seq.{length-take-le}
-use Rattle.table.specs.declared.trailer.Headed.the-variants.{Good}
-use Rattle.table.specs.Trailer.{trailerOf}
+use Rattle.trailer.specs.declared.Headed.the-variants.{Good}
+use Rattle.trailer.specs.Trailer.{trailerOf}
 use Rattle.listing.proofs.OutwardLaws.{sent-bad, copy-fits, sent-refused, sent-done, words-laid, copy-laid}
 use Rattle.listing.proofs.sending.send_read.Statement.{statement}
 use Rattle.listing.proofs.sending.send_read.Tie as tie

@@ -4,7 +4,7 @@ use mathlib.Core.Path.{_≡_, sym}
 use native.Mathlib.Omega.{arith}
 use borrow.Author.Needs.{needs}
 use Rattle.network.proofs.Tests.{held, failed}
-use Rattle.table.proofs.BoardLaws.{slots-most, slot-fits}
+use Rattle.board.proofs.BoardLaws.{slots-most, slot-fits}
 use Rattle.text.proofs.PutLaws.{wrote-nothing}
 use Rattle.listing.specs.Line.{slotLine}
 use Rattle.listing.specs.Lines.{rowOf, rowAt, rowsText}

@@ -5,7 +5,7 @@ use mathlib.Core.Path.{_≡_, refl, _∙_}
 use native.Mathlib.Omega.{arith}
 use borrow.Author.Needs.{needs}
 use lib.ListN.{length}
-use Rattle.table.specs.Layout.{layoutOf}
+use Rattle.board.specs.Layout.{layoutOf}
 use Rattle.text.specs.Put.{Wrote}
 use Rattle.text.proofs.PutLaws.{next-fits, then, wrote-nothing, wrote-long}
 use Rattle.listing.specs.Lines.{rowsIn, rowsText}

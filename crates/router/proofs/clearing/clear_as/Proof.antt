@@ -11,13 +11,13 @@ use lib.ListN.{length, take, drop, length-drop}
 use borrow.Rule.Slice.PartMut.{putMid}
 use Rattle.network.proofs.Tests.{not-held, not-failed}
 use Rattle.slots.proofs.Parts.{lent-rest, rest-back}
+use Rattle.board.specs.declared.Board.{Board}
+use Rattle.board.specs.Board.{boardOk}
+use Rattle.board.specs.Layout.{tableSize}
+use Rattle.board.proofs.Sizes.{board-good}
+use Rattle.trailer.specs.Trailer.{fresh}
 use Rattle.table.specs.Refusals.{sizes-not-accepted, wrong-length}
-use Rattle.table.specs.declared.board.Board.{Board}
-use Rattle.table.specs.Board.{boardOk}
-use Rattle.table.specs.Layout.{tableSize}
-use Rattle.table.specs.Trailer.{fresh}
 use Rattle.table.specs.Calls.{outcome}
-use Rattle.table.proofs.Sizes.{board-good}
 use Rattle.router.specs.Clear.{clearedAs}
 use Rattle.router.proofs.clearing.clear_as.Statement.{statement}
 use Rattle.router.proofs.clearing.clear_as.Tie as tie

@@ -1,7 +1,7 @@
 -- `router::moving::hand_out` meets its contract: exact effects, one after the other.
 -- Assumes nothing.
 use borrow.Author.Needs.{needs}
-use Rattle.table.proofs.BoardLaws.{slot-fits}
+use Rattle.board.proofs.BoardLaws.{slot-fits}
 use Rattle.router.specs.Move.{handedOut}
 use Rattle.router.proofs.moving.hand_out.Statement.{statement}
 use Rattle.router.proofs.moving.hand_out.Tie as tie

@@ -5,8 +5,8 @@ use mathlib.Core.Path.{_≡_, sym, ap, _∙_}
 use mathlib.Core.Bool.{true, not}
 use native.Mathlib.Omega.{arith}
 use Rattle.network.proofs.Tests.{cond-true, held, not-failed}
-use Rattle.table.specs.Board.{netOf}
-use Rattle.table.proofs.BoardLaws.{slot-fits}
+use Rattle.board.specs.Board.{netOf}
+use Rattle.board.proofs.BoardLaws.{slot-fits}
 use Rattle.router.specs.Move.{moveDue}
 use Rattle.router.proofs.NamedLaws.{Named, due-named, targets}
 use Rattle.router.proofs.VerdictLaws.{due-refuses, slot-refuses, slot-passes}

@@ -2,12 +2,12 @@
 -- Assumes nothing.
 use borrow.Author.Needs.{needs}
 use mathlib.Core.Path.{_≡_, sym, ap, _∙_}
-use Rattle.table.specs.declared.trailer.Headed.the-variants.{Good}
-use Rattle.table.specs.Trailer.{trailerOf}
+use Rattle.trailer.specs.declared.Headed.the-variants.{Good}
+use Rattle.trailer.specs.Trailer.{trailerOf}
 use Rattle.table.specs.Calls.{outcome}
+use Rattle.table.proofs.CallLaws.{on-table-bad, start-in, lent-sized, ends-on-table}
 use Rattle.router.specs.declared.moving.Moved.{Moved}
 use Rattle.router.specs.Move.{refusal, movedIn, movedSlice}
-use Rattle.table.proofs.CallLaws.{on-table-bad, start-in, lent-sized, ends-on-table}
 use Rattle.router.proofs.moving.make_move.Statement.{statement}
 use Rattle.router.proofs.moving.make_move.Tie as tie
 

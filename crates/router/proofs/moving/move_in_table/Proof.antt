@@ -5,9 +5,9 @@ use Prim.Native.Nat.{_<_}
 use mathlib.Core.Bool.{false}
 use mathlib.Core.Path.{_≡_, sym, ap, _∙_}
 use native.Mathlib.Omega.{arith}
-use Rattle.table.specs.Layout.{layoutOf}
+use Rattle.board.specs.Layout.{layoutOf}
+use Rattle.board.proofs.BoardLaws.{slots-most, slot-fits}
 use Rattle.table.specs.Calls.{outcome}
-use Rattle.table.proofs.BoardLaws.{slots-most, slot-fits}
 use Rattle.router.specs.declared.moving.Moved.{Moved}
 use Rattle.router.proofs.NamedLaws.{Named, named-good}
 use Rattle.router.proofs.VerdictLaws.{granted, verdict-refused, verdict-out, verdict-on, target-within, target-apart, hops-fit}

@@ -6,7 +6,7 @@ use native.Mathlib.Omega.{arith}
 use borrow.Author.Needs.{needs}
 use Rattle.network.proofs.Tests.{cond-true, cond-false, not-held, not-failed}
 use Rattle.network.specs.declared.Lowest.{Lowest}
-use Rattle.table.specs.Board.{netOf}
+use Rattle.board.specs.Board.{netOf}
 use Rattle.router.specs.Verdicts.{into}
 use Rattle.router.proofs.TakeLaws.{all-given-out, take-refuses, take-into}
 use Rattle.router.proofs.taking.judge_taking.Statement.{statement}

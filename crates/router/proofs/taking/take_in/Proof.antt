@@ -2,12 +2,12 @@
 -- Assumes nothing.
 use mathlib.Core.Path.{_≡_, sym, ap, _∙_}
 use borrow.Author.Needs.{needs}
-use Rattle.table.specs.declared.trailer.Headed.the-variants.{Good}
-use Rattle.table.specs.Trailer.{trailerOf}
+use Rattle.trailer.specs.declared.Headed.the-variants.{Good}
+use Rattle.trailer.specs.Trailer.{trailerOf}
 use Rattle.table.specs.Calls.{outcome}
+use Rattle.table.proofs.CallLaws.{on-table-bad, start-in, lent-sized, ends-on-table}
 use Rattle.router.specs.declared.taking.Taken.{Taken}
 use Rattle.router.specs.TakeIn.{refusal, takenSlice}
-use Rattle.table.proofs.CallLaws.{on-table-bad, start-in, lent-sized, ends-on-table}
 use Rattle.router.proofs.taking.take_in.Statement.{statement}
 use Rattle.router.proofs.taking.take_in.Tie as tie
 

@@ -7,12 +7,12 @@ use mathlib.Core.List.{List}
 use native.Mathlib.Omega.{arith}
 use borrow.Author.Needs.{needs}
 use Rattle.slots.specs.Slots.{withSlot}
-use Rattle.table.specs.declared.trailer.Head.{Head}
-use Rattle.table.specs.Board.{GoodBoard}
-use Rattle.table.specs.Layout.{layoutOf}
-use Rattle.table.specs.Trailer.{withTaken}
+use Rattle.board.specs.Board.{GoodBoard}
+use Rattle.board.specs.Layout.{layoutOf}
+use Rattle.board.proofs.BoardLaws.{slots-most, slot-fits}
+use Rattle.trailer.specs.declared.Head.{Head}
+use Rattle.trailer.specs.Trailer.{withTaken}
 use Rattle.table.specs.Calls.{outcome}
-use Rattle.table.proofs.BoardLaws.{slots-most, slot-fits}
 use Rattle.router.specs.declared.taking.Taken.{Taken}
 use Rattle.router.specs.declared.verdict.Verdict.{Verdict}
 use Rattle.router.specs.TakeIn.{refusal, newRecord, tookIn, takenIn}

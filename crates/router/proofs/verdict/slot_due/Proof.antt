@@ -6,8 +6,8 @@ use mathlib.Core.Path.{sym, ap, _∙_}
 use mathlib.Core.Bool.{not}
 use borrow.Author.Tests.{le-leb, lt-leb}
 use Rattle.network.proofs.Tests.{cond-true, cond-false, held, failed, not-failed}
-use Rattle.table.specs.Layout.{layoutOf}
-use Rattle.table.proofs.BoardLaws.{slot-fits}
+use Rattle.board.specs.Layout.{layoutOf}
+use Rattle.board.proofs.BoardLaws.{slot-fits}
 use Rattle.router.specs.Verdicts.{slotDue}
 use Rattle.router.proofs.NamedLaws.{named-due}
 use Rattle.router.proofs.verdict.slot_due.Statement.{statement}

@@ -6,9 +6,9 @@ use native.Mathlib.Omega.{arith}
 use Rattle.network.proofs.Tests.{held, failed, cond-true, cond-false}
 use Rattle.network.specs.Search.{lowestWith}
 use Rattle.network.proofs.SearchLaws.{lowest-step}
-use Rattle.table.proofs.BoardLaws.{slots-inside}
+use Rattle.board.proofs.BoardLaws.{slots-inside}
 use Rattle.survey.specs.Check.{repeatsAt, firstRepeat}
-use Rattle.survey.specs.Filter.{Met}
+use Rattle.survey.specs.Met.{Met}
 use Rattle.survey.proofs.MetLaws.{met-start}
 use Rattle.survey.proofs.checking.first_repeat.Statement.{statement}
 use Rattle.survey.proofs.checking.first_repeat.Tie as tie

@@ -4,9 +4,9 @@ use Prim.Native.Nat.{_≤_, _-_}
 use mathlib.Core.Path.{_≡_, sym, ap, _∙_}
 use native.Mathlib.Omega.{arith}
 use Rattle.network.proofs.Tests.{held, failed, cond-true, cond-false}
-use Rattle.table.specs.Layout.{layoutOf}
 use Rattle.network.specs.Search.{lowestWith}
 use Rattle.network.proofs.SearchLaws.{lowest-step}
+use Rattle.board.specs.Layout.{layoutOf}
 use Rattle.survey.specs.Check.{spoiledAt, firstSpoiled}
 use Rattle.survey.proofs.checking.first_spoiled.Statement.{statement}
 use Rattle.survey.proofs.checking.first_spoiled.Tie as tie

@@ -5,7 +5,7 @@ use mathlib.Core.Path.{sym, ap, _∙_}
 use lib.ListN.{length}
 use borrow.Author.Needs.{needs}
 use Rattle.slots.proofs.Parts.{lent-rest}
-use Rattle.table.proofs.TrailerLaws.{trailer-good, trailer-sized}
+use Rattle.trailer.proofs.TrailerLaws.{trailer-good, trailer-sized}
 use Rattle.survey.specs.Check.{unlessFault, readBy, checkedIn, checkedSlice}
 use Rattle.survey.specs.declared.checking.Checked.the-variants.{Passes, BadTrailer, FaultAt}
 use Rattle.survey.proofs.checking.full_check.Statement.{statement}

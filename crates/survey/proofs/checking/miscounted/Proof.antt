@@ -6,7 +6,7 @@ use borrow.Author.Needs.{needs}
 use borrow.Author.Tests.{eq-eqb, ne-eqb}
 use Rattle.network.specs.declared.Lowest.the-variants.{At}
 use Rattle.network.proofs.Tests.{cond-true, cond-false}
-use Rattle.table.proofs.BoardLaws.{slots-inside}
+use Rattle.board.proofs.BoardLaws.{slots-inside}
 use Rattle.survey.specs.Check.{heldBelow, miscount}
 use Rattle.survey.proofs.checking.miscounted.Statement.{statement}
 use Rattle.survey.proofs.checking.miscounted.Tie as tie

@@ -5,7 +5,7 @@ use mathlib.Core.Bool.{not}
 use native.Mathlib.Omega.{arith}
 use borrow.Author.Needs.{needs}
 use Rattle.network.proofs.Tests.{not-held, not-failed, and-yes, and-no}
-use Rattle.table.proofs.BoardLaws.{slots-inside}
+use Rattle.board.proofs.BoardLaws.{slots-inside}
 use Rattle.survey.proofs.checking.spoiled.Statement.{statement}
 use Rattle.survey.proofs.checking.spoiled.Tie as tie
 

@@ -4,11 +4,11 @@ use Prim.Native.Nat.{ℕ}
 use mathlib.Core.Path.{_≡_, sym, ap, _∙_}
 use mathlib.Core.List.{List}
 use Rattle.slots.proofs.Parts.{lent-rest}
-use Rattle.table.specs.declared.trailer.Headed.{Headed}
-use Rattle.table.specs.declared.trailer.Headed.the-variants.{Good}
+use Rattle.trailer.specs.declared.Headed.{Headed}
+use Rattle.trailer.specs.declared.Headed.the-variants.{Good}
+use Rattle.trailer.specs.Trailer.{trailerOf}
+use Rattle.trailer.proofs.TrailerLaws.{trailer-good}
 use Rattle.table.specs.Calls.{Outcome, outcome}
-use Rattle.table.specs.Trailer.{trailerOf}
-use Rattle.table.proofs.TrailerLaws.{trailer-good}
 use Rattle.table.proofs.CallLaws.{start-in, lent-sized}
 use Rattle.survey.specs.Check.{unlessFault, readBy}
 use Rattle.survey.specs.Copy.{copiedIn, copiedUnless, copiedSlice}

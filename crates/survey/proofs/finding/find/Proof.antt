@@ -3,9 +3,9 @@
 use mathlib.Core.Path.{_≡_, sym, ap, _∙_}
 use borrow.Author.Needs.{needs}
 use Rattle.slots.proofs.Parts.{lent-rest}
-use Rattle.table.specs.declared.trailer.Headed.the-variants.{Good}
-use Rattle.table.specs.Trailer.{trailerOf}
-use Rattle.table.proofs.TrailerLaws.{trailer-good}
+use Rattle.trailer.specs.declared.Headed.the-variants.{Good}
+use Rattle.trailer.specs.Trailer.{trailerOf}
+use Rattle.trailer.proofs.TrailerLaws.{trailer-good}
 use Rattle.table.proofs.CallLaws.{start-in, lent-sized}
 use Rattle.survey.specs.Check.{unlessFault, readBy}
 use Rattle.survey.specs.Find.{foundIn, foundUnless, foundSlice}

@@ -8,8 +8,8 @@ use borrow.Author.Tests.{eq-eqb, ne-eqb}
 use Rattle.network.specs.Search.{lowestWith}
 use Rattle.network.proofs.SearchLaws.{lowest-step}
 use Rattle.network.proofs.Tests.{cond-true, cond-false}
-use Rattle.table.specs.Board.{netOf}
-use Rattle.table.proofs.BoardLaws.{last-byte}
+use Rattle.board.specs.Board.{netOf}
+use Rattle.board.proofs.BoardLaws.{last-byte}
 use Rattle.router.specs.declared.verdict.Verdict.{Verdict}
 use Rattle.router.proofs.VerdictLaws.{verdict-number}
 use Rattle.survey.specs.Find.{accepts, firstCode}

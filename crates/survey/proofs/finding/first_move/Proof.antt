@@ -8,8 +8,8 @@ use Rattle.network.specs.declared.Lowest.{Lowest}
 use Rattle.network.specs.Search.{lowestWith, isAt, numberAt}
 use Rattle.network.proofs.SearchLaws.{lowest-step}
 use Rattle.network.proofs.Tests.{cond-true, cond-false}
-use Rattle.table.specs.Layout.{layoutOf}
-use Rattle.table.proofs.BoardLaws.{slots-most, last-byte}
+use Rattle.board.specs.Layout.{layoutOf}
+use Rattle.board.proofs.BoardLaws.{slots-most, last-byte}
 use Rattle.survey.specs.declared.finding.Found.the-variants.{Move}
 use Rattle.survey.specs.Find.{movable, moveAt, foundIn}
 use Rattle.survey.proofs.FindLaws.{code-below}

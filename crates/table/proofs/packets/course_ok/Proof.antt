@@ -5,8 +5,8 @@ use mathlib.Core.Path.{sym, _∙_}
 use native.Mathlib.Omega.{arith}
 use borrow.Author.Tests.{eq-eqb, ne-eqb}
 use Rattle.network.proofs.Tests.{and-yes, and-no}
+use Rattle.board.proofs.BoardLaws.{distance-byte}
 use Rattle.table.specs.Packets.{courseOk}
-use Rattle.table.proofs.BoardLaws.{distance-byte}
 use Rattle.table.proofs.packets.course_ok.Statement.{statement}
 use Rattle.table.proofs.packets.course_ok.Tie as tie
 

@@ -3,8 +3,8 @@
 use native.Mathlib.Omega.{arith}
 use borrow.Author.Needs.{needs}
 use Rattle.slots.specs.Slots.{slotAt}
-use Rattle.table.specs.Board.{netOf}
-use Rattle.table.specs.Layout.{layoutOf}
+use Rattle.board.specs.Board.{netOf}
+use Rattle.board.specs.Layout.{layoutOf}
 use Rattle.table.specs.Packets.{goodAt}
 use Rattle.table.proofs.PacketLaws.{good-by}
 use Rattle.table.proofs.packets.good_at.Statement.{statement}

@@ -8,9 +8,9 @@ use lib.Dec.{eqb}
 use borrow.Author.Tests.{eq-eqb, ne-eqb, lt-ltb, le-ltb}
 use Rattle.network.proofs.Tests.{and-l, and-r, and-both, both-true, and-yes, not-held, not-failed}
 use Rattle.network.specs.Packet.{good}
-use Rattle.table.specs.declared.board.Board.{Board}
+use Rattle.board.specs.declared.Board.{Board}
+use Rattle.board.specs.Board.{netOf}
 use Rattle.table.specs.declared.packets.Fields.{Fields}
-use Rattle.table.specs.Board.{netOf}
 use Rattle.table.specs.Packets.{courseOk}
 use Rattle.table.proofs.packets.good_in.Statement.{statement}
 use Rattle.table.proofs.packets.good_in.Tie as tie

@@ -2,8 +2,8 @@
 -- Assumes nothing.
 use borrow.Author.Needs.{needs}
 use native.Mathlib.Omega.{arith}
+use Rattle.board.proofs.BoardLaws.{queue-within}
 use Rattle.table.specs.Queues.{roomAt}
-use Rattle.table.proofs.BoardLaws.{queue-within}
 use Rattle.table.proofs.queues.room_at.Statement.{statement}
 use Rattle.table.proofs.queues.room_at.Tie as tie
 

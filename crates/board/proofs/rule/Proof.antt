@@ -1,0 +1,16 @@
+-- `board::rule` meets its contract: the board's network is the grid.
+-- Assumes nothing.
+use borrow.Author.Needs.{needs}
+use Rattle.board.specs.Board.{netOf}
+use Rattle.board.proofs.rule.Statement.{statement}
+use Rattle.board.proofs.rule.Tie as tie
+
+rule-requires : tie.Need-rule-requires
+rule-requires c κs = search needs
+
+returns : tie.Need-returns
+unfolding netOf
+returns c = c .rule .ensures
+
+pub rule-spec : {M : Type 1} → statement M
+rule-spec = tie.close (tie.spec rule-requires returns)

@@ -1,0 +1,116 @@
+-- A count written into a trailer changes that count alone, and no slot.
+-- Assumes nothing.
+use Prim.Native.Nat.{ℕ, _+_, _-_, _*_, _^_, _≤_, _<_}
+use mathlib.Core.Path.{_≡_, sym, ap, _∙_}
+use mathlib.Core.List.{List}
+use native.Mathlib.Omega.{arith}
+use lib.ListN.{length, getD, drop}
+use Rattle.slots.specs.Bytes.{put, bytes32}
+use Rattle.slots.specs.Slots.{slotAt}
+use Rattle.slots.proofs.Parts.{drop-put-inside, length-put, part-put-before}
+use Rattle.slots.proofs.Numbers.{getD-put-before, length-bytes32, le32-put, le32-put-after, le32-put-before}
+use Rattle.board.specs.declared.Board.{Board}
+use Rattle.board.specs.Layout.{layoutOf, Sized}
+use Rattle.trailer.specs.declared.Head.{Head}
+use Rattle.trailer.specs.declared.Headed.the-variants.{Good}
+use Rattle.trailer.specs.Trailer.{headOf, trailerOf, last16, withTaken, withDelivered}
+use Rattle.trailer.proofs.TrailerLaws.{length-last16, trailer-good, good-trailer}
+
+abbrev counting : Head → ℕ → ℕ → Head
+counting h p d = record { board = h .board; taken = p; delivered = d; size = h .size }
+
+abbrev pub taking : Head → ℕ → Head
+taking h m = counting h m (h .delivered)
+
+abbrev pub delivering : Head → ℕ → Head
+delivering h m = counting h (h .taken) m
+
+module _ (z : List ℕ) (l : length z ≡ 16) (m : ℕ) (k : m < 2 ^ 32) where
+  head-taking : headOf (put z 4 (bytes32 m)) ≡ taking (headOf z) m
+  head-taking =
+      let b = length-bytes32 m in
+      let h : 4 ≤ length z = omega arith in
+      rw (
+        getD-put-before z 4 (bytes32 m) 0 h (omega arith),
+        getD-put-before z 4 (bytes32 m) 1 h (omega arith),
+        getD-put-before z 4 (bytes32 m) 2 h (omega arith),
+        le32-put z 4 m (omega arith) k,
+        le32-put-after z 4 (bytes32 m) 8 h (omega arith),
+        le32-put-after z 4 (bytes32 m) 12 h (omega arith),
+      )
+
+  head-delivering : headOf (put z 8 (bytes32 m)) ≡ delivering (headOf z) m
+  head-delivering =
+      let b = length-bytes32 m in
+      let h : 8 ≤ length z = omega arith in
+      rw (
+        getD-put-before z 8 (bytes32 m) 0 h (omega arith),
+        getD-put-before z 8 (bytes32 m) 1 h (omega arith),
+        getD-put-before z 8 (bytes32 m) 2 h (omega arith),
+        le32-put-before z 8 (bytes32 m) 4 h (omega arith),
+        le32-put z 8 m (omega arith) k,
+        le32-put-after z 8 (bytes32 m) 12 h (omega arith),
+      )
+
+-- a number put at place i of the trailer, past the sizes and byte 3
+recounted : (t : List ℕ) {h : Head} (i m p d : ℕ) → trailerOf t ≡ Good h → 4 ≤ i → i ≤ 12 → d ≤ p
+    → headOf (put (last16 t) i (bytes32 m)) ≡ counting h p d
+    → trailerOf (put t (length t - 16 + i) (bytes32 m)) ≡ Good (counting h p d)
+recounted t {h} i m p d e low high c q =
+    let g = trailer-good t e in
+    let b = length-bytes32 m in
+    let u : List ℕ = put t (length t - 16 + i) (bytes32 m) in
+    let lu : length u ≡ length t = length-put t (length t - 16 + i) (bytes32 m) (omega arith) in
+    let lz : length (last16 t) ≡ 16 = length-last16 t (g .long) in
+    let z : last16 u ≡ put (last16 t) i (bytes32 m) =
+    ap (λ (n : ℕ). drop (n - 16) u) lu ∙ drop-put-inside t (length t - 16) i (bytes32 m) (omega arith) in
+    good-trailer
+    (record {
+      long = omega arith;
+      read = sym (ap headOf z ∙ q);
+      spare =
+          ap (λ (l : List ℕ). getD l 3 0) z ∙ getD-put-before (last16 t) i (bytes32 m) 3 (omega arith) (omega arith) ∙ g .spare;
+      ranges = g .ranges;
+      counts = c;
+      size-is = g .size-is;
+      size-in = omega arith;
+    })
+
+pub trailer-withTaken : (t : List ℕ) {h : Head} (m : ℕ) → trailerOf t ≡ Good h → h .delivered ≤ m → m < 2 ^ 32
+    → trailerOf (withTaken t m) ≡ Good (taking h m)
+unfolding withTaken
+trailer-withTaken t {h} m e c k =
+    let g = trailer-good t e in
+    let at : length t - 16 + 4 ≡ length t - 12 = omega arith in
+    let r : headOf (put (last16 t) 4 (bytes32 m)) ≡ taking h m =
+    head-taking (last16 t) (length-last16 t (g .long)) m k ∙ ap (λ (x : Head). taking x m) (sym (g .read)) in
+    rw at at (recounted t 4 m m (h .delivered) e (omega arith) (omega arith) c r)
+
+pub trailer-withDelivered : (t : List ℕ) {h : Head} (m : ℕ) → trailerOf t ≡ Good h → m ≤ h .taken → m < 2 ^ 32
+    → trailerOf (withDelivered t m) ≡ Good (delivering h m)
+unfolding withDelivered
+trailer-withDelivered t {h} m e c k =
+    let g = trailer-good t e in
+    let at : length t - 16 + 8 ≡ length t - 8 = omega arith in
+    let r : headOf (put (last16 t) 8 (bytes32 m)) ≡ delivering h m =
+    head-delivering (last16 t) (length-last16 t (g .long)) m k ∙ ap (λ (x : Head). delivering x m) (sym (g .read)) in
+    rw at at (recounted t 8 m (h .taken) m e (omega arith) (omega arith) c r)
+
+module _ (t : List ℕ) (m : ℕ) (long : 16 ≤ length t) where
+  pub length-withTaken : length (withTaken t m) ≡ length t
+  unfolding withTaken
+  length-withTaken = length-put t (length t - 12) (bytes32 m) (omega (arith, length-bytes32 m))
+
+  pub length-withDelivered : length (withDelivered t m) ≡ length t
+  unfolding withDelivered
+  length-withDelivered = length-put t (length t - 8) (bytes32 m) (omega (arith, length-bytes32 m))
+
+-- the slots are as they were
+module _ {b : Board} {t : List ℕ} (z : Sized b t) (m k : ℕ) (l : k < layoutOf b .size) where
+  pub slotAt-withTaken : slotAt (withTaken t m) k ≡ slotAt t k
+  unfolding slotAt withTaken
+  slotAt-withTaken = part-put-before t (length t - 12) (bytes32 m) (16 * k) 16 (omega arith) (omega arith)
+
+  pub slotAt-withDelivered : slotAt (withDelivered t m) k ≡ slotAt t k
+  unfolding slotAt withDelivered
+  slotAt-withDelivered = part-put-before t (length t - 8) (bytes32 m) (16 * k) 16 (omega arith) (omega arith)

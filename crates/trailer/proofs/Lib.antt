@@ -1,0 +1,4 @@
+pub mod TrailerLaws
+pub mod TrailerTold
+pub mod CountLaws
+pub mod FreshLaws
