@@ -29,7 +29,7 @@ use Rattle.promises.proofs.Reading.{head-is, table-is, good-in, good-is
 use Rattle.promises.proofs.Steps.{offered-known}
 use Rattle.promises.proofs.Checked.{taken-small}
 use Rattle.promises.proofs.Conditions.{lead-is, held-zeros, zeros-held, good-test, test-good, not-barred, room-free, free-room}
-use Rattle.promises.proofs.Tables.{slots-long, table-long, ends, table-end}
+use Rattle.promises.proofs.Tables.{slots-long, table-long, ends-alike}
 use Rattle.promises.proofs.OneStep.{accepted-trailer, number-is, it-steps}
 
 -- ---- which moves are accepted
@@ -102,7 +102,7 @@ module _ (s out : List ℕ) (z : copyAnswer (copiedSlice s out .answer) .number 
       (record {
         long = same ∙ table-long s g;
         slots = λ k m. veiled-slot n (tableIn s) k m l;
-        trailer = ends s g (veiled n (tableIn s)) same ∙ veiled-end n (tableIn s) l ∙ sym (ends s g (tableIn s) refl) ∙ table-end s g;
+        trailer = ends-alike s g (veiled n (tableIn s)) same (veiled-end n (tableIn s) l);
       })
 
 pub demand-2 : Demand2 ours

@@ -1,16 +1,20 @@
 -- A slice and its table: the bytes before it, its slots and its trailer; and another table in place of this one.
 -- Assumes nothing.
 use Prim.Native.Nat.{ℕ, _+_, _-_, _*_, _<_, _≤_}
-use mathlib.Core.Path.{_≡_, sym, ap, _∙_}
+use mathlib.Core.Path.{_≡_, refl, sym, ap, _∙_}
 use mathlib.Core.List.{List, _++_}
 use native.Mathlib.Omega.{arith}
-use lib.ListN.{length, drop, length-append, take-append-drop}
+use lib.ListN.{length, take, drop, length-append, take-append-drop}
 use lib.Seq.{drop-append-add}
+use Rattle.slots.specs.Bytes.{put, bytes32}
 use Rattle.slots.specs.Slots.{slotAt}
+use Rattle.slots.proofs.Parts.{length-put, take-put, drop-put}
+use Rattle.slots.proofs.Numbers.{length-bytes32}
 use Rattle.trailer.specs.declared.Head.{Head}
 use Rattle.trailer.specs.declared.Headed.the-variants.{Good}
 use Rattle.trailer.specs.Trailer.{trailerOf, last16}
-use Rattle.trailer.proofs.TrailerLaws.{trailer-good, trailer-table, length-table}
+use Rattle.trailer.proofs.TrailerLaws.{length-last16, trailer-good, trailer-table, length-table}
+use Rattle.trailer.proofs.CountLaws.{last-put}
 use Rattle.calls.specs.Slices.{headIn, tableIn, beforeIn, GoodIn, slotsIn, slotIn}
 use Rattle.promises.specs.Demand2.{Kept}
 use Rattle.promises.proofs.Reading.{good-is, table-after, before-after}
@@ -39,11 +43,32 @@ module _ (s : List ℕ) (g : GoodIn s) where
   slots-long = sized s g .full
 
   -- the trailer is what follows the slots
-  pub ends : (u : List ℕ) → length u ≡ length (tableIn s) → last16 u ≡ drop (16 * slotsIn s) u
+  ends : (u : List ℕ) → length u ≡ length (tableIn s) → last16 u ≡ drop (16 * slotsIn s) u
   ends u l = let n : length u - 16 ≡ 16 * slotsIn s = omega (arith, slots-long) in rw n
 
-  pub table-end : last16 (tableIn s) ≡ last16 s
+  table-end : last16 (tableIn s) ≡ last16 s
   table-end = sym (last-after (beforeIn s) (tableIn s) (omega (arith, slots-long))) ∙ ap last16 whole
+
+  pub ends-alike : (u : List ℕ) → length u ≡ length (tableIn s) → drop (16 * slotsIn s) u ≡ drop (16 * slotsIn s) (tableIn s) → last16 u ≡ last16 s
+  ends-alike u l e = ends u l ∙ e ∙ sym (ends (tableIn s) refl) ∙ table-end
+
+  -- a number put at place i of the trailer leaves the rest of it
+  pub around-number : (x : List ℕ) → length x ≡ length (tableIn s) → drop (16 * slotsIn s) x ≡ drop (16 * slotsIn s) (tableIn s)
+      → (i m at : ℕ) → i ≤ 12 → at + 16 ≡ length x + i
+      → (take i (last16 (beforeIn s ++ put x at (bytes32 m))) ≡ take i (last16 s))
+      × (drop (i + 4) (last16 (beforeIn s ++ put x at (bytes32 m))) ≡ drop (i + 4) (last16 s))
+  around-number x l e i m at high place =
+      let b = length-bytes32 m in
+      let long : 16 ≤ length x = omega (arith, slots-long) in
+      let n = length-put x at (bytes32 m) (omega arith) in
+      let k = length-last16 s (g .long) in
+      let f : last16 (beforeIn s ++ put x at (bytes32 m)) ≡ put (last16 s) i (bytes32 m) =
+      last-after (beforeIn s) (put x at (bytes32 m)) (omega arith)
+      ∙ last-put x i m at long high place
+      ∙ ap (λ (z : List ℕ). put z i (bytes32 m)) (ends-alike x l e) in (
+        ap (take i) f ∙ take-put (last16 s) i (bytes32 m) i (omega arith) (omega arith),
+        ap (drop (i + 4)) f ∙ drop-put (last16 s) i (bytes32 m) (i + 4) (omega arith) (omega arith),
+      )
 
   -- ---- another table in place of this one, as long as it
 

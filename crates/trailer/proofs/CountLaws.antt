@@ -52,18 +52,24 @@ module _ (z : List ℕ) (l : length z ≡ 16) (m : ℕ) (k : m < 2 ^ 32) where
         le32-put-after z 8 (bytes32 m) 12 h (omega arith),
       )
 
--- a number put at place i of the trailer, past the sizes and byte 3
-recounted : (t : List ℕ) {h : Head} (i m p d : ℕ) → trailerOf t ≡ Good h → 4 ≤ i → i ≤ 12 → d ≤ p
+-- a number put at place i of the trailer
+pub last-put : (t : List ℕ) (i m at : ℕ) → 16 ≤ length t → i ≤ 12 → at + 16 ≡ length t + i → last16 (put t at (bytes32 m)) ≡ put (last16 t) i (bytes32 m)
+last-put t i m at long high place =
+    let b = length-bytes32 m in
+    let there : length t - 16 + i ≡ at = omega arith in
+    ap (λ (n : ℕ). drop (n - 16) (put t at (bytes32 m))) (length-put t at (bytes32 m) (omega arith))
+    ∙ rw there at (drop-put-inside t (length t - 16) i (bytes32 m) (omega arith))
+
+-- past the sizes and byte 3 it leaves a good trailer
+recounted : (t : List ℕ) {h : Head} (i m at p d : ℕ) → trailerOf t ≡ Good h → 4 ≤ i → i ≤ 12 → at + 16 ≡ length t + i → d ≤ p
     → headOf (put (last16 t) i (bytes32 m)) ≡ counting h p d
-    → trailerOf (put t (length t - 16 + i) (bytes32 m)) ≡ Good (counting h p d)
-recounted t {h} i m p d e low high c q =
+    → trailerOf (put t at (bytes32 m)) ≡ Good (counting h p d)
+recounted t {h} i m at p d e low high place c q =
     let g = trailer-good t e in
     let b = length-bytes32 m in
-    let u : List ℕ = put t (length t - 16 + i) (bytes32 m) in
-    let lu : length u ≡ length t = length-put t (length t - 16 + i) (bytes32 m) (omega arith) in
+    let lu = length-put t at (bytes32 m) (omega arith) in
     let lz : length (last16 t) ≡ 16 = length-last16 t (g .long) in
-    let z : last16 u ≡ put (last16 t) i (bytes32 m) =
-    ap (λ (n : ℕ). drop (n - 16) u) lu ∙ drop-put-inside t (length t - 16) i (bytes32 m) (omega arith) in
+    let z = last-put t i m at (g .long) high place in
     good-trailer
     (record {
       long = omega arith;
@@ -81,20 +87,18 @@ pub trailer-withTaken : (t : List ℕ) {h : Head} (m : ℕ) → trailerOf t ≡ 
 unfolding withTaken
 trailer-withTaken t {h} m e c k =
     let g = trailer-good t e in
-    let at : length t - 16 + 4 ≡ length t - 12 = omega arith in
     let r : headOf (put (last16 t) 4 (bytes32 m)) ≡ taking h m =
     head-taking (last16 t) (length-last16 t (g .long)) m k ∙ ap (λ (x : Head). taking x m) (sym (g .read)) in
-    rw at at (recounted t 4 m m (h .delivered) e (omega arith) (omega arith) c r)
+    recounted t 4 m (length t - 12) m (h .delivered) e (omega arith) (omega arith) (omega arith) c r
 
 pub trailer-withDelivered : (t : List ℕ) {h : Head} (m : ℕ) → trailerOf t ≡ Good h → m ≤ h .taken → m < 2 ^ 32
     → trailerOf (withDelivered t m) ≡ Good (delivering h m)
 unfolding withDelivered
 trailer-withDelivered t {h} m e c k =
     let g = trailer-good t e in
-    let at : length t - 16 + 8 ≡ length t - 8 = omega arith in
     let r : headOf (put (last16 t) 8 (bytes32 m)) ≡ delivering h m =
     head-delivering (last16 t) (length-last16 t (g .long)) m k ∙ ap (λ (x : Head). delivering x m) (sym (g .read)) in
-    rw at at (recounted t 8 m (h .taken) m e (omega arith) (omega arith) c r)
+    recounted t 8 m (length t - 8) (h .taken) m e (omega arith) (omega arith) (omega arith) c r
 
 module _ (t : List ℕ) (m : ℕ) (long : 16 ≤ length t) where
   pub length-withTaken : length (withTaken t m) ≡ length t
