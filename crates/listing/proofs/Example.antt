@@ -53,60 +53,30 @@ spoiled : goodAt head (packet ++ unmarked) 1 ≡ false
 unfolding goodAt good slotAt
 spoiled = refl
 
+-- what the examples compute with: to unfold one of these is to unfold all that its own line names
+unfoldable words : Unit {0}
+unfolding refusalLine faultLine dec decFrom
+words = tt
+
+unfoldable checks : Unit {0}
+unfolding words slotAt boardOk layoutOf headOk trailerOf firstSpoiled firstRepeat miscount faultIn
+checks = tt
+
+unfoldable lines : Unit {0}
+unfolding listing tableText linesOf wholeLines onto rowsIn rowAt joined lineText headLine gridText countsText slotLine placeText packetText nodeText coordinatesOf lastLine
+lines = tt
+
 pub example : listing (packet ++ replicate 80 0 ++ trailer)
     ≡ text "grid 2 1 depth 1 taken 1 delivered 0\n0 W 0,0 from 0,0 to 1,0 hops 0 serial 0\nheld 1\n"
-unfolding listing
-    faultIn
-    firstSpoiled
-    firstRepeat
-    miscount
-    trailerOf
-    headOk
-    boardOk
-    layoutOf
-    slotAt
-    tableText
-    linesOf
-    wholeLines
-    onto
-    rowsIn
-    rowAt
-    joined
-    lineText
-    headLine
-    gridText
-    countsText
-    slotLine
-    placeText
-    packetText
-    nodeText
-    coordinatesOf
-    lastLine
-    dec
-    decFrom
+unfolding checks lines
 example = rw (packet-good (replicate 80 0 ++ trailer))
 
 pub refusals : (refusalLine 9 ≡ text "refused 9\n") × ((refusalLine 1 ≡ text "refused 1\n") × (faultLine 27 ≡ text "refused 10 at 27\n"))
-unfolding refusalLine faultLine dec decFrom
+unfolding words
 refusals = (refl, (refl, refl))
 
 pub outward-example : (sentOf (packet ++ replicate 80 0 ++ trailer) ≡ copyAlone (take 8 packet ++ replicate 88 0 ++ trailer))
     × ((sentOf [] ≡ wordsAlone (text "refused 1\n"))
     × (sentOf (packet ++ unmarked) ≡ wordsAlone (text "refused 10 at 1\n")))
-unfolding sentOf
-    verdict
-    refusalLine
-    faultLine
-    checkedSlice
-    faultIn
-    firstSpoiled
-    firstRepeat
-    miscount
-    trailerOf
-    headOk
-    boardOk
-    layoutOf
-    slotAt
-    dec
-    decFrom
+unfolding checks sentOf verdict checkedSlice
 outward-example = (rw (packet-good (replicate 80 0 ++ trailer)), (refl, rw (packet-good unmarked, spoiled)))
