@@ -11,9 +11,9 @@ use Rattle.router.specs.Clear.{clearedSlice}
 use Rattle.router.specs.TakeIn.{takenSlice}
 use Rattle.router.specs.Move.{movedSlice}
 use Rattle.router.specs.ReadPayload.{Reading, readSlice}
-use Rattle.survey.specs.Check.{CheckAnswer, checkAnswer, checkedSlice}
+use Rattle.survey.specs.Check.{PlacedAnswer, checkAnswer, checkedSlice}
 use Rattle.survey.specs.Find.{FindAnswer, findAnswer, foundSlice}
-use Rattle.survey.specs.Copy.{CopyAnswer, copyAnswer, copiedSlice}
+use Rattle.survey.specs.Copy.{copyAnswer, copiedSlice}
 
 -- the two buffers of a copy
 pub record Buffers : Type 0 where
@@ -29,10 +29,10 @@ pub record Router : Type 0 where
   pub make-move : List ℕ → ℕ → ℕ → Outcome Moved (List ℕ)
   -- slot
   pub read-payload : List ℕ → ℕ → Outcome Reading (List ℕ)
-  pub full-check : List ℕ → Outcome CheckAnswer (List ℕ)
+  pub full-check : List ℕ → Outcome PlacedAnswer (List ℕ)
   pub find : List ℕ → Outcome FindAnswer (List ℕ)
   -- the second buffer
-  pub copy-outward : List ℕ → List ℕ → Outcome CopyAnswer Buffers
+  pub copy-outward : List ℕ → List ℕ → Outcome PlacedAnswer Buffers
 
 -- a slice that is lent to be read only is left as it was: no call can write it
 abbrev pub ours : Router

@@ -1,8 +1,8 @@
 // Document 01's cases that are run and not proved, one call of every refusal, and a slot that the next packet takes at once.
 
 use survey::checking;
+use survey::checking::PlacedAnswer;
 use survey::copying;
-use survey::copying::CopyAnswer;
 use survey::finding;
 
 fn say(text: &[u8]) {
@@ -92,7 +92,7 @@ fn find(s: &[u8]) {
     say(b"\n");
 }
 
-fn copied(a: CopyAnswer) {
+fn copied(a: PlacedAnswer) {
     if a.number == 0 {
         return say(b"copy done\n");
     }

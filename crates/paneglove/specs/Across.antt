@@ -12,9 +12,9 @@ use Rattle.table.specs.Calls.{Outcome, outcome}
 use Rattle.router.specs.TakeIn.{takenSlice}
 use Rattle.router.specs.Move.{movedSlice}
 use Rattle.router.specs.ReadPayload.{Reading}
-use Rattle.survey.specs.Check.{CheckAnswer}
+use Rattle.survey.specs.Check.{PlacedAnswer}
 use Rattle.survey.specs.Find.{FindAnswer}
-use Rattle.survey.specs.Copy.{CopyAnswer, copyAnswer, copiedSlice}
+use Rattle.survey.specs.Copy.{copyAnswer, copiedSlice}
 use Rattle.survey.specs.declared.copying.Copied as copying
 use Rattle.listing.specs.declared.answering.Listed as answering
 use Rattle.listing.specs.Output.{listedInto}
@@ -46,14 +46,14 @@ movedAcross s slot code = across moveAcross (movedSlice s slot code)
 abbrev pub readAcross : Reading → Read
 readAcross a = record { number = a .number; payload = cond (eqb (a .number) 0) (a .bytes) (replicate 8 0) }
 
-abbrev pub checkAcross : CheckAnswer → Checked
+abbrev pub checkAcross : PlacedAnswer → Checked
 checkAcross a = record { number = a .number; place = a .place }
 
 -- where the check failed, `findAnswer` has its place as the slot
 abbrev pub findAcross : FindAnswer → Found
 findAcross a = record { number = a .number; slot = a .slot; code = a .code }
 
-abbrev pub copyAcross : CopyAnswer → Copied
+abbrev pub copyAcross : PlacedAnswer → Copied
 copyAcross a = record { number = a .number; place = a .place }
 
 unfoldable pub copiedAcross : List ℕ → List ℕ → Outcome Copied (List ℕ)

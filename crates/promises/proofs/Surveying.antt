@@ -17,9 +17,9 @@ use Rattle.survey.specs.declared.finding.Found.{Found}
 use Rattle.survey.specs.declared.finding.Found.the-variants as found
 use Rattle.survey.specs.declared.copying.Copied.{Copied}
 use Rattle.survey.specs.declared.copying.Copied.the-variants as copied
-use Rattle.survey.specs.Check.{CheckAnswer, checkAnswer, faultIn, checkedSlice}
+use Rattle.survey.specs.Check.{PlacedAnswer, checkAnswer, faultIn, checkedSlice}
 use Rattle.survey.specs.Find.{FindAnswer, findAnswer, foundIn, foundSlice}
-use Rattle.survey.specs.Copy.{CopyAnswer, copyAnswer, veiled, copiedIn, copiedSlice}
+use Rattle.survey.specs.Copy.{copyAnswer, veiled, copiedIn, copiedSlice}
 use Rattle.survey.proofs.CopyLaws.{refused-unwritten}
 use Rattle.calls.specs.Slices.{Bytes, headIn, tableIn, GoodIn, slotsIn}
 use Rattle.promises.specs.Conditions.{NothingHeld}
@@ -51,7 +51,7 @@ module _ (s : List ℕ) where
     unplaced (checkedSlice s),
   )
 
-  pub check-refuses : Refuses (λ (a : CheckAnswer). a .number) (λ a. Placed s (a .number) (a .place)) (checkGrounds s end) s
+  pub check-refuses : Refuses (λ (a : PlacedAnswer). a .number) (λ a. Placed s (a .number) (a .place)) (checkGrounds s end) s
       (outcome (checkAnswer (checkedSlice s)) s)
   check-refuses = record {
     exactly = exactly-first (checkGrounds s end) (checkAnswer (checkedSlice s) .number) check-first;
@@ -172,7 +172,7 @@ module _ (s out : List ℕ) where
 
   pub copy-refuses :
       let o = copiedSlice s out in
-      Refuses {B = Buffers} (λ (a : CopyAnswer). a .number) (λ a. Placed s (a .number) (a .place)) (copyGrounds s out) record { slice = s; second = out }
+      Refuses {B = Buffers} (λ (a : PlacedAnswer). a .number) (λ a. Placed s (a .number) (a .place)) (copyGrounds s out) record { slice = s; second = out }
       (outcome (copyAnswer (o .answer)) record { slice = s; second = o .bytes })
   copy-refuses = record {
     exactly = exactly-first (copyGrounds s out) (number (copiedSlice s out)) copy-first;

@@ -18,9 +18,8 @@ use Rattle.router.specs.declared.moving.Moved.{Moved}
 use Rattle.router.specs.declared.taking.Taken.{Taken}
 use Rattle.router.specs.Clear.{used}
 use Rattle.router.specs.ReadPayload.{Reading}
-use Rattle.survey.specs.Check.{CheckAnswer}
+use Rattle.survey.specs.Check.{PlacedAnswer}
 use Rattle.survey.specs.Find.{FindAnswer}
-use Rattle.survey.specs.Copy.{CopyAnswer}
 use Rattle.calls.specs.Slices.{Bytes, headIn, GoodIn, netIn, slotsIn, placeIn}
 use Rattle.calls.specs.Router.{Router}
 use Rattle.promises.specs.Conditions.{EmptyAt, SpoiledAt, IsCode, leadIn, HasEmpty, Room, FaultAt, NothingHeld}
@@ -109,11 +108,11 @@ pub record Demand1 (R : Router) : Type 0 where
   pub read-payload : (s : List ℕ) → Bytes s → (slot : ℕ)
       → Refuses (λ (a : Reading). a .number) (λ a. a .bytes ≡ []) (readGrounds s slot) s (R .read-payload s slot)
   pub full-check : (s : List ℕ) → Bytes s
-      → Refuses (λ (a : CheckAnswer). a .number) (λ a. Placed s (a .number) (a .place)) (checkGrounds s end) s (R .full-check s)
+      → Refuses (λ (a : PlacedAnswer). a .number) (λ a. Placed s (a .number) (a .place)) (checkGrounds s end) s (R .full-check s)
   pub find : (s : List ℕ) → Bytes s
       → Refuses (λ (a : FindAnswer). a .number) (λ a. Placed s (a .number) (a .slot) × (a .code ≡ 0)) (findGrounds s) s (R .find s)
   pub copy-outward : (s out : List ℕ) → Bytes s
-      → Refuses (λ (a : CopyAnswer). a .number) (λ a. Placed s (a .number) (a .place)) (copyGrounds s out) record { slice = s; second = out } (R .copy-outward s out)
+      → Refuses (λ (a : PlacedAnswer). a .number) (λ a. Placed s (a .number) (a .place)) (copyGrounds s out) record { slice = s; second = out } (R .copy-outward s out)
   -- accepted or not, these change no byte of the table's slice
   pub reads : (s out : List ℕ) (slot : ℕ)
       → (R .read-payload s slot .bytes ≡ s) × (R .full-check s .bytes ≡ s) × (R .find s .bytes ≡ s) × (R .copy-outward s out .bytes .slice ≡ s)

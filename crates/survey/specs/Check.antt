@@ -19,7 +19,7 @@ use Rattle.trailer.specs.Trailer.{trailerOf}
 use Rattle.table.specs.Refusals.{trailer-not-good, check-failed}
 use Rattle.table.specs.Packets.{goodAt}
 use Rattle.table.specs.Queues.{emptyAt}
-use Rattle.survey.specs.declared.checking.CheckAnswer as declared
+use Rattle.survey.specs.declared.checking.PlacedAnswer as declared
 use Rattle.survey.specs.declared.checking.Checked.{Checked}
 use Rattle.survey.specs.declared.checking.Checked.the-variants.{Passes, BadTrailer, FaultAt}
 
@@ -96,10 +96,10 @@ unfoldable pub checkedSlice : List ℕ → Checked
 checkedSlice s = onPassing s BadTrailer FaultAt (λ h t. Passes)
 
 -- the paper's number and place of each answer
-abbrev pub CheckAnswer : Type 0
-CheckAnswer = declared.CheckAnswer
+abbrev pub PlacedAnswer : Type 0
+PlacedAnswer = declared.PlacedAnswer
 
-abbrev pub checkAnswer : Checked → CheckAnswer
+abbrev pub checkAnswer : Checked → PlacedAnswer
 checkAnswer Passes = record { number = 0; place = 0 }
 checkAnswer BadTrailer = record { number = trailer-not-good; place = 0 }
 checkAnswer (FaultAt p) = record { number = check-failed; place = p }

@@ -10,10 +10,9 @@ use Rattle.board.specs.Layout.{layoutOf}
 use Rattle.trailer.specs.declared.Head.{Head}
 use Rattle.table.specs.Refusals.{trailer-not-good, check-failed, wrong-length}
 use Rattle.table.specs.Calls.{Outcome, outcome}
-use Rattle.survey.specs.declared.copying.CopyAnswer as declared
 use Rattle.survey.specs.declared.copying.Copied.{Copied}
 use Rattle.survey.specs.declared.copying.Copied.the-variants.{Done, BadTrailer, FaultAt, WrongLength}
-use Rattle.survey.specs.Check.{unlessFault, onPassing}
+use Rattle.survey.specs.Check.{PlacedAnswer, unlessFault, onPassing}
 
 -- a slot's bytes with the payload zero
 abbrev pub withoutPayload : List ℕ → List ℕ
@@ -35,10 +34,7 @@ unfoldable pub copiedSlice : List ℕ → List ℕ → Outcome Copied (List ℕ)
 copiedSlice s out = onPassing s (outcome BadTrailer out) (λ place. outcome (FaultAt place) out) (copiedIn out)
 
 -- the paper's number and place of each answer
-abbrev pub CopyAnswer : Type 0
-CopyAnswer = declared.CopyAnswer
-
-abbrev pub copyAnswer : Copied → CopyAnswer
+abbrev pub copyAnswer : Copied → PlacedAnswer
 copyAnswer Done = record { number = 0; place = 0 }
 copyAnswer BadTrailer = record { number = trailer-not-good; place = 0 }
 copyAnswer (FaultAt place) = record { number = check-failed; place = place }

@@ -16,24 +16,24 @@ pub enum Checked {
 }
 
 // The paper's number and place of an answer.
-pub struct CheckAnswer {
+pub struct PlacedAnswer {
     pub number: u32,
     pub place: u32,
 }
 
-pub fn answer_of(c: Checked) -> CheckAnswer
+pub fn answer_of(c: Checked) -> PlacedAnswer
     ensures { λ r. ⌜ r ≡ checkAnswer c ⌝ }
 {
     match c {
-        Checked::Passes => CheckAnswer {
+        Checked::Passes => PlacedAnswer {
             number: 0,
             place: 0,
         },
-        Checked::BadTrailer => CheckAnswer {
+        Checked::BadTrailer => PlacedAnswer {
             number: table::refusals::TRAILER,
             place: 0,
         },
-        Checked::FaultAt(place) => CheckAnswer {
+        Checked::FaultAt(place) => PlacedAnswer {
             number: table::refusals::FAULT,
             place,
         },

@@ -1,4 +1,5 @@
 // Outward copy: the table for outsiders, with every payload zero.
+use crate::checking::PlacedAnswer;
 use network::Lowest;
 use trailer::Head;
 use trailer::Headed;
@@ -17,29 +18,23 @@ pub enum Copied {
     WrongLength,
 }
 
-// The paper's number and place of an answer.
-pub struct CopyAnswer {
-    pub number: u32,
-    pub place: u32,
-}
-
-pub fn answer_of(c: Copied) -> CopyAnswer
+pub fn answer_of(c: Copied) -> PlacedAnswer
     ensures { λ r. ⌜ r ≡ copyAnswer c ⌝ }
 {
     match c {
-        Copied::Done => CopyAnswer {
+        Copied::Done => PlacedAnswer {
             number: 0,
             place: 0,
         },
-        Copied::BadTrailer => CopyAnswer {
+        Copied::BadTrailer => PlacedAnswer {
             number: table::refusals::TRAILER,
             place: 0,
         },
-        Copied::FaultAt(place) => CopyAnswer {
+        Copied::FaultAt(place) => PlacedAnswer {
             number: table::refusals::FAULT,
             place,
         },
-        Copied::WrongLength => CopyAnswer {
+        Copied::WrongLength => PlacedAnswer {
             number: table::refusals::BUFFER,
             place: 0,
         },

@@ -4,7 +4,8 @@ use mathlib.Core.Path.{ap, _∙_}
 use borrow.Author.Needs.{needs}
 use Rattle.table.specs.Calls.{outcome}
 use Rattle.survey.specs.declared.copying.Copied as copying
-use Rattle.survey.specs.Copy.{CopyAnswer, copyAnswer}
+use Rattle.survey.specs.Check.{PlacedAnswer}
+use Rattle.survey.specs.Copy.{copyAnswer}
 use Rattle.paneglove.specs.Across.{across, copyAcross, copiedAcross}
 use Rattle.paneglove.proofs.paneglove_copy_outward.Statement.{statement}
 use Rattle.paneglove.proofs.paneglove_copy_outward.Tie as tie
@@ -22,7 +23,7 @@ returns : tie.Need-returns
 unfolding copiedAcross
 returns c =
     let i = c .before .before .before .copy-outward in
-    ap (λ (a : CopyAnswer). outcome (copyAcross a) (i .last .1 .0)) (c .answer-of .ensures)
+    ap (λ (a : PlacedAnswer). outcome (copyAcross a) (i .last .1 .0)) (c .answer-of .ensures)
     ∙ ap (across (λ (a : copying.Copied). copyAcross (copyAnswer a))) (i .ensures)
 
 pub paneglove-copy-outward-spec : {M : Type 1} → statement M
