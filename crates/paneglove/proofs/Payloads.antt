@@ -52,11 +52,11 @@ eight s k e = go (trailerOf s) refl e
 
 -- ---- what crosses
 
-abbrev answered : ℕ → List ℕ → Read
+abbrev pub answered : ℕ → List ℕ → Read
 answered number payload = record { number = number; payload = payload }
 
-pub crosses : (n : ℕ) (bytes : List ℕ) → n ≡ 0 → answered 0 bytes ≡ readAcross (reading n bytes)
-crosses n bytes e = λ i. answered (sym e i) (sym (accepted-by bytes (replicate 8 0) e) i)
+pub crosses : (n : ℕ) (bytes : List ℕ) → n ≡ 0 → answered n bytes ≡ readAcross (reading n bytes)
+crosses n bytes e = ap (answered n) (sym (accepted-by bytes _ e))
 
 pub crosses-refused : (n : ℕ) (bytes : List ℕ) → n ≢ 0 → answered n (replicate 8 0) ≡ readAcross (reading n bytes)
-crosses-refused n bytes u = ap (answered n) (sym (refused-by bytes (replicate 8 0) u))
+crosses-refused n bytes u = ap (answered n) (sym (refused-by bytes _ u))

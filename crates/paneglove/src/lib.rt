@@ -5,7 +5,6 @@ use survey::checking;
 use survey::copying;
 use survey::finding;
 ghost use mathlib.Core.Path.{_≡_};
-ghost use lib.ListN.{length};
 ghost use Rattle.table.specs.Calls.{outcome};
 ghost use Rattle.router.specs.Clear.{asked, clearedSlice};
 ghost use Rattle.router.specs.ReadPayload.{readSlice};
@@ -106,20 +105,6 @@ pub extern "C" fn paneglove_make_move(s: &mut [u8], slot: u32, code: u32) -> Mov
     }
 }
 
-// Eight bytes, by value.
-fn copy8(p: &[u8]) -> [u8; 8]
-    requires { ⌜ length (now p) ≡ 8 ⌝ }
-    ensures { λ r. ⌜ r ≡ now (p .entry) ⌝ }
-{
-    let mut v = [0u8; 8];
-    let mut i = 0;
-    while i < 8 {
-        v[i] = p[i];
-        i += 1;
-    }
-    v
-}
-
 // Refuses by 1 (trailer), 2 (no such slot), 3 (it is empty), then 4 (it is spoiled). A part of the slice can't cross, so the payload crosses by
 // value.
 #[no_mangle]
@@ -128,14 +113,12 @@ pub extern "C" fn paneglove_read_payload(s: &[u8], slot: u32) -> Read
 {
     let mut number: u32 = 0;
     let part = router::read_payload(s, slot, &mut number);
+    let mut payload = [0u8; 8];
     if number != 0 {
-        return Read {
-            number,
-            payload: [0u8; 8],
-        };
+        return Read { number, payload };
     }
-    let payload = copy8(part);
-    Read { number: 0, payload }
+    slots::copy_bytes(part, &mut payload);
+    Read { number, payload }
 }
 
 // Refuses by 1 (trailer), then 10 (the check failed; the place is answered).

@@ -123,8 +123,8 @@ copied-more i s d h k =
     let l : length (take i s) ≡ i = length-take-le i s (omega arith) in
     rw (add-one, drop-cons d i 0, set-at (take i s) (getD d i 0) (drop (suc i) d) (getD s i 0) i, take-suc s i 0, append-snoc)
 
-pub copied-all : (n : ℕ) (s d : List ℕ) → length s ≡ n → length d ≡ n → take n s ++ drop n d ≡ s
-copied-all n s d e f = rw (← f, drop-length, f, ← e, take-length, append-nil)
+pub copied-all : (s d : List ℕ) → length s ≡ length d → take (length s) s ++ drop (length s) d ≡ s
+copied-all s d e = rw (take-length, e, drop-length, append-nil)
 
 -- ---- a part lent, as the borrow checker has it: `&s[a..a + n]`, and `&mut s[a..a + n]` when it is back
 

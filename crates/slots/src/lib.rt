@@ -47,29 +47,15 @@ pub fn zero_all(t: &mut [u8])
     }
 }
 
-// The 16 bytes, by value.
-fn copy16(p: &[u8]) -> [u8; 16]
-    requires { ⌜ length (now p) ≡ 16 ⌝ }
-    ensures { λ r. ⌜ r ≡ now (p .entry) ⌝ }
+// Makes `to` the bytes of `from`.
+pub fn copy_bytes(from: &[u8], to: &mut [u8])
+    requires { ⌜ length (now from) ≡ length (now to) ⌝ }
+    ensures { λ _. ⌜ now (to .exit) ≡ now (from .entry) ⌝ }
 {
-    let mut v = [0u8; 16];
     let mut i = 0;
-    while i < 16 {
-        v[i] = p[i];
+    while i < from.len() {
+        to[i] = from[i];
         i += 1;
-    }
-    v
-}
-
-// Makes the 16 bytes those of `v`.
-fn fill16(p: &mut [u8], v: [u8; 16])
-    requires { ⌜ length (now p) ≡ 16 ⌝ }
-    ensures { λ _. ⌜ now (p .exit) ≡ v ⌝ }
-{
-    let mut done = 0;
-    while done < 16 {
-        p[done] = v[done];
-        done += 1;
     }
 }
 
@@ -79,7 +65,9 @@ pub fn read_slot(t: &[u8], k: usize) -> [u8; 16]
     ensures { λ r. ⌜ r ≡ slotAt (now (t .entry)) k ⌝ }
 {
     let a = 16 * k;
-    copy16(&t[a..a + 16])
+    let mut v = [0u8; 16];
+    copy_bytes(&t[a..a + 16], &mut v);
+    v
 }
 
 // Is slot `k` 16 zeros?
@@ -114,7 +102,7 @@ pub fn write_slot(t: &mut [u8], k: usize, v: [u8; 16])
     ensures { λ _. ⌜ now (t .exit) ≡ withSlot (now (t .entry)) k v ⌝ }
 {
     let a = 16 * k;
-    fill16(&mut t[a..a + 16], v);
+    copy_bytes(&v, &mut t[a..a + 16]);
 }
 
 // Makes slot `k` 16 zeros.
@@ -123,5 +111,5 @@ pub fn clear_slot(t: &mut [u8], k: usize)
     ensures { λ _. ⌜ now (t .exit) ≡ withSlot (now (t .entry)) k emptySlot ⌝ }
 {
     let a = 16 * k;
-    fill16(&mut t[a..a + 16], [0u8; 16]);
+    zero_all(&mut t[a..a + 16]);
 }

@@ -9,32 +9,36 @@ use Rattle.slots.proofs.read_slot.Tie as tie
 mul-a : tie.Need-mul-a
 mul-a c = search needs
 
-add-copy16 : tie.Need-add-copy16
-add-copy16 c = search needs
+add-copy-bytes : tie.Need-add-copy-bytes
+add-copy-bytes c = search needs
 
-sub-copy16 : tie.Need-sub-copy16
-sub-copy16 c = search needs
+sub-copy-bytes : tie.Need-sub-copy-bytes
+sub-copy-bytes c = search needs
 
-part-copy16-start : tie.Need-part-copy16-start
-part-copy16-start c = search needs
+part-copy-bytes-start : tie.Need-part-copy-bytes-start
+part-copy-bytes-start c = search needs
 
-part-copy16-end : tie.Need-part-copy16-end
-part-copy16-end c = search needs
+part-copy-bytes-end : tie.Need-part-copy-bytes-end
+part-copy-bytes-end c = search needs
 
-copy16-requires : tie.Need-copy16-requires
-copy16-requires c κs = search needs
+slice-aggregate-copy-bytes : tie.Need-slice-aggregate-copy-bytes
+slice-aggregate-copy-bytes c = search needs
+
+copy-bytes-requires : tie.Need-copy-bytes-requires
+copy-bytes-requires c κs = search needs
 
 returns : tie.Need-returns
-returns c = let a = c .before .before .before .args in c .copy16 .ensures ∙ slot-lent (a .t .now) (a .k)
+returns c = let a = c .before .before .before .before .before .args in c .before .copy-bytes .ensures ∙ slot-lent (a .t .now) (a .k)
 
 pub read-slot-spec : {M : Type 1} → statement M
 read-slot-spec =
     tie.close
     (tie.spec
     mul-a
-    add-copy16
-    sub-copy16
-    part-copy16-start
-    part-copy16-end
-    copy16-requires
+    add-copy-bytes
+    sub-copy-bytes
+    part-copy-bytes-start
+    part-copy-bytes-end
+    slice-aggregate-copy-bytes
+    copy-bytes-requires
     returns)

@@ -8,38 +8,42 @@ use Rattle.slots.proofs.write_slot.Tie as tie
 mul-a : tie.Need-mul-a
 mul-a c = search needs
 
-add-fill16 : tie.Need-add-fill16
-add-fill16 c = search needs
+slice-aggregate-copy-bytes : tie.Need-slice-aggregate-copy-bytes
+slice-aggregate-copy-bytes c = search needs
 
-sub-fill16 : tie.Need-sub-fill16
-sub-fill16 c = search needs
+add-copy-bytes : tie.Need-add-copy-bytes
+add-copy-bytes c = search needs
 
-part-fill16-start : tie.Need-part-fill16-start
-part-fill16-start c = search needs
+sub-copy-bytes : tie.Need-sub-copy-bytes
+sub-copy-bytes c = search needs
 
-part-fill16-end : tie.Need-part-fill16-end
-part-fill16-end c = search needs
+part-copy-bytes-start : tie.Need-part-copy-bytes-start
+part-copy-bytes-start c = search needs
 
-fill16-requires : tie.Need-fill16-requires
-fill16-requires c κs = search needs
+part-copy-bytes-end : tie.Need-part-copy-bytes-end
+part-copy-bytes-end c = search needs
+
+copy-bytes-requires : tie.Need-copy-bytes-requires
+copy-bytes-requires c κs = search needs
 
 same-length : tie.Need-same-length
 same-length c = search needs
 
 returns : tie.Need-returns
 returns c =
-    let a = c .before .before .before .before .before .args in
-    slot-back (a .t .now) (a .k) _ (a .v) (c .before .before .fill16 .ensures) (search needs)
+    let a = c .before .before .before .before .before .before .args in
+    slot-back (a .t .now) (a .k) _ (a .t3) (c .before .before .copy-bytes .ensures) (search needs)
 
 pub write-slot-spec : {M : Type 1} → statement M
 write-slot-spec =
     tie.close
     (tie.spec
     mul-a
-    add-fill16
-    sub-fill16
-    part-fill16-start
-    part-fill16-end
-    fill16-requires
+    slice-aggregate-copy-bytes
+    add-copy-bytes
+    sub-copy-bytes
+    part-copy-bytes-start
+    part-copy-bytes-end
+    copy-bytes-requires
     same-length
     returns)
