@@ -18,6 +18,7 @@
 #define HEIGHT 4
 #define DEPTH 2
 #define BEFORE 8
+#define NODE_SLOTS PANEGLOVE_SLOTS(1, 1, DEPTH)
 #define SLOTS PANEGLOVE_SLOTS(WIDTH, HEIGHT, DEPTH)
 #define TABLE PANEGLOVE_TABLE_BYTES(WIDTH, HEIGHT, DEPTH)
 #define LENGTH (BEFORE + TABLE)
@@ -71,6 +72,20 @@ static int all_zero(const uint8_t *bytes, size_t length) {
     return all_are(0, bytes, length);
 }
 
+/* How many slots are empty in the queue that a slot is one of: a node has its waiting slot, then its A slots, then its B slots. */
+static uint32_t empty_in_queue_of(uint32_t slot) {
+    size_t place = slot % NODE_SLOTS, first = slot - place, length = 1, k;
+    uint32_t empty = 0;
+    if (place > 0) {
+        first += place <= DEPTH ? 1 : 1 + DEPTH;
+        length = DEPTH;
+    }
+    for (k = first; k < first + length; k++) {
+        empty += all_zero(slice + BEFORE + 16 * k, 16);
+    }
+    return empty;
+}
+
 static unsigned distance(uint8_t a, uint8_t b) {
     return (unsigned)(abs(a % 16 - b % 16) + abs(a / 16 - b / 16));
 }
@@ -83,7 +98,7 @@ static paneglove_payload payload_of(const char *text) {
 
 static paneglove_taken take_in(uint8_t source, uint8_t destination, const char *payload) {
     paneglove_taken a = paneglove_take_in(slice, LENGTH, source, destination, payload_of(payload));
-    printf("take in: %" PRIu32 ", slot %" PRIu32 ", serial %" PRIu32 "\n", a.number, a.slot, a.serial);
+    printf("take in: %" PRIu32 ", slot %" PRIu32 ", serial %" PRIu32 ", left %" PRIu32 "\n", a.number, a.slot, a.serial, a.left);
     return a;
 }
 
@@ -93,12 +108,13 @@ static void take_in_all(void) {
     for (i = 0; i < TRIPS; i++) {
         a = take_in(trips[i].source, trips[i].destination, trips[i].payload);
         expect(a.number == PANEGLOVE_ACCEPTED && a.serial == i, "packets are taken in, in the order of their serials");
+        expect(a.left == 0, "a packet taken in leaves no waiting slot");
     }
     remember();
     a = take_in(trips[0].source, trips[0].destination, "too many");
-    expect(a.number == PANEGLOVE_NO_ROOM && a.slot == 0 && a.serial == 0, "a waiting slot holds one packet");
+    expect(a.number == PANEGLOVE_NO_ROOM && a.slot == 0 && a.serial == 0 && a.left == 0, "a waiting slot holds one packet");
     a = take_in(PANEGLOVE_NODE(0, 1), PANEGLOVE_NODE(WIDTH, 0), "off grid");
-    expect(a.number == PANEGLOVE_OUT_OF_RANGE, "a destination off the grid is refused");
+    expect(a.number == PANEGLOVE_OUT_OF_RANGE && a.left == 0, "a destination off the grid is refused");
     expect(unchanged(), "a refusal changes no byte");
 }
 
@@ -170,15 +186,19 @@ static void show_outsiders(void) {
 
 static paneglove_moved make_move(uint32_t slot, uint32_t code) {
     paneglove_moved a = paneglove_make_move(slice, LENGTH, slot, code);
-    printf("move of slot %" PRIu32 " by code %" PRIu32 ": %" PRIu32 ", slot %" PRIu32 "\n", slot, code, a.number, a.slot);
+    printf("move of slot %" PRIu32 " by code %" PRIu32 ": %" PRIu32 ", slot %" PRIu32 ", left %" PRIu32 "\n", slot, code, a.number, a.slot, a.left);
     return a;
+}
+
+static int refused_by(uint32_t number, paneglove_moved a) {
+    return a.number == number && a.slot == 0 && all_zero(a.packet, 16) && a.left == 0;
 }
 
 static void refuse_moves(void) {
     remember();
-    expect(make_move(0, 8).number == PANEGLOVE_OUT_OF_RANGE, "there is no code 8");
-    expect(make_move(1, PANEGLOVE_ENTER).number == PANEGLOVE_EMPTY, "an empty slot has no moves");
-    expect(make_move(0, PANEGLOVE_RIGHT).number == PANEGLOVE_NOT_OFFERED, "a waiting packet enters first");
+    expect(refused_by(PANEGLOVE_OUT_OF_RANGE, make_move(0, 8)), "there is no code 8");
+    expect(refused_by(PANEGLOVE_EMPTY, make_move(1, PANEGLOVE_ENTER)), "an empty slot has no moves");
+    expect(refused_by(PANEGLOVE_NOT_OFFERED, make_move(0, PANEGLOVE_RIGHT)), "a waiting packet enters first");
     expect(unchanged(), "a refusal changes no byte");
 }
 
@@ -218,8 +238,10 @@ static void follow_find(void) {
         expect(a.number == PANEGLOVE_ACCEPTED, "a move that was found is accepted");
         if (f.code == PANEGLOVE_DELIVER) {
             expect(a.slot == 0, "a delivery answers slot 0");
+            expect(a.left == empty_in_queue_of(f.slot), "a delivery tells how many slots are then empty in the queue that it left");
             receive(a.packet, delivered);
         } else {
+            expect(a.left == empty_in_queue_of(a.slot), "a move tells how many slots are then empty in the queue that it led to");
             expect(all_zero(a.packet, 16), "only a delivery hands out a packet");
         }
         if (moves > most) {

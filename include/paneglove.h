@@ -64,12 +64,14 @@ typedef struct paneglove_taken {
     uint32_t number;
     uint32_t slot;
     uint32_t serial;
+    uint32_t left; /* the slots then empty in the queue that the packet went into */
 } paneglove_taken;
 
 typedef struct paneglove_moved {
     uint32_t number;
     uint32_t slot;
     uint8_t packet[16];
+    uint32_t left; /* the slots then empty in the queue that the packet went into; on delivery, in the queue that it left */
 } paneglove_moved;
 
 typedef struct paneglove_read {
@@ -110,15 +112,17 @@ uint32_t paneglove_clear(uint8_t *slice, size_t length, uint32_t width, uint32_t
 /*
  * Puts a packet into the waiting slot of its source.
  * Refuses by 1 (trailer), 2 (source or destination off the grid), 7 (all serials are given out), then 6 (the waiting slot is held). Answers
- * beside 0 the slot used and the packet's serial, which is the old count of packets taken in.
+ * beside 0 the slot used, the packet's serial, which is the old count of packets taken in, and how many slots of its queue are then empty: 0,
+ * for that queue is the one waiting slot.
  */
 paneglove_taken paneglove_take_in(uint8_t *slice, size_t length, uint8_t source, uint8_t destination, paneglove_payload payload);
 
 /*
  * Makes the proposed move of the packet in a slot.
  * Refuses by 1 (trailer), 2 (no such slot, or no such code), 3 (the slot is empty), 4 (it is spoiled), 5 (the rule doesn't offer the move),
- * then 6 (the target queue has no empty slot). Answers beside 0 the packet's new slot and a packet of zeros; a delivery answers slot 0 and the
- * packet's 16 bytes.
+ * then 6 (the target queue has no empty slot). Answers beside 0 the packet's new slot, a packet of zeros, and how many slots of the target queue
+ * are then empty; a delivery answers slot 0, the packet's 16 bytes, and how many slots are then empty in the queue that it left. A spoiled slot
+ * is not empty.
  */
 paneglove_moved paneglove_make_move(uint8_t *slice, size_t length, uint32_t slot, uint32_t code);
 

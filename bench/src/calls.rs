@@ -22,7 +22,10 @@ fn take_in() -> Row {
     let (mut ours, mut theirs) = (fresh.clone(), fresh);
     let answer = paneglove::take_in(&mut ours, 0, 255, [1; 8]).expect("there is room");
     let twin = calls::take_in(&mut theirs, 0, 255, &[1; 8]);
-    assert_eq!((answer.slot, answer.serial), (twin.slot, twin.serial));
+    assert_eq!(
+        (answer.slot, answer.serial, answer.left),
+        (twin.slot, twin.serial, twin.left)
+    );
     assert_eq!(ours, theirs);
     put_back(&mut ours);
     put_back(&mut theirs);
@@ -49,7 +52,8 @@ fn hop() -> Row {
     let (mut ours, mut theirs) = (t.clone(), t.clone());
     let answer = paneglove::make_move(&mut ours, from, 2).expect("it is offered");
     let twin = calls::make_move(&mut theirs, from, 2);
-    assert_eq!(answer, Moved::To { slot: twin.slot });
+    let (slot, left) = (twin.slot, twin.left);
+    assert_eq!(answer, Moved::To { slot, left });
     assert_eq!((twin.packet, ours == theirs), ([0; 16], true));
     let (from_at, to_at) = (16 * from as usize, 16 * twin.slot as usize);
     let packet = t[from_at..from_at + 16].to_vec();

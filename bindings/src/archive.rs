@@ -14,6 +14,7 @@ pub struct Taken {
     pub number: u32,
     pub slot: u32,
     pub serial: u32,
+    pub left: u32,
 }
 
 #[repr(C)]
@@ -21,6 +22,7 @@ pub struct Moved {
     pub number: u32,
     pub slot: u32,
     pub packet: [u8; 16],
+    pub left: u32,
 }
 
 #[repr(C)]

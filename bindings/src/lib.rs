@@ -13,8 +13,12 @@
 //! loop {
 //!     match find(&board) {
 //!         Ok(found) => {
-//!             if let Moved::Delivered { packet } = make_move(&mut board, found.slot, found.code)? {
-//!                 assert_eq!(&packet[8..], b"payload!");
+//!             match make_move(&mut board, found.slot, found.code)? {
+//!                 Moved::To { left, .. } => assert_eq!(left, 1),
+//!                 Moved::Delivered { packet, left } => {
+//!                     assert_eq!(&packet[8..], b"payload!");
+//!                     assert_eq!(left, 2);
+//!                 }
 //!             }
 //!         }
 //!         Err(Refusal::NothingHeld) => break,
@@ -34,20 +38,21 @@ pub const DELIVER: u32 = 7;
 /// The buffer that a listing needs, whatever the slice.
 pub const LISTING_ROOM: usize = 226_627;
 
-/// A packet taken in.
+/// A packet taken in: its slot, its serial, and how many slots of its queue are now empty, which is 0: a waiting queue has one slot.
 #[derive(Clone, Copy, Debug, PartialEq, Eq)]
 pub struct Taken {
     pub slot: u32,
     pub serial: u32,
+    pub left: u32,
 }
 
-/// What an accepted move did.
+/// What an accepted move did. A spoiled slot never counts as empty.
 #[derive(Clone, Copy, Debug, PartialEq, Eq)]
 pub enum Moved {
-    /// The packet is now in this slot.
-    To { slot: u32 },
-    /// The packet left, all 16 bytes of it.
-    Delivered { packet: [u8; 16] },
+    /// The packet is now in this slot, and so many slots of its queue are still empty.
+    To { slot: u32, left: u32 },
+    /// The packet left, all 16 bytes of it, and so many slots of the queue that it left are now empty, its own among them.
+    Delivered { packet: [u8; 16], left: u32 },
 }
 
 /// A move that would be accepted.
@@ -93,6 +98,7 @@ pub fn take_in(
         Taken {
             slot: a.slot,
             serial: a.serial,
+            left: a.left,
         },
     )
 }
@@ -101,9 +107,15 @@ pub fn take_in(
 pub fn make_move(slice: &mut [u8], slot: u32, code: u32) -> Result<Moved, Refusal> {
     let a = archive::make_move(slice, slot, code);
     let done = if code == DELIVER {
-        Moved::Delivered { packet: a.packet }
+        Moved::Delivered {
+            packet: a.packet,
+            left: a.left,
+        }
     } else {
-        Moved::To { slot: a.slot }
+        Moved::To {
+            slot: a.slot,
+            left: a.left,
+        }
     };
     accepted(a.number, 0, done)
 }

@@ -19,12 +19,32 @@ fn board() -> Vec<u8> {
     ];
     for (serial, (source, destination, slot)) in (0..).zip(trips) {
         let payload = [serial as u8 + 1; 8];
+        let left = 0;
         assert_eq!(
             take_in(&mut s, source, destination, payload),
-            Ok(Taken { slot, serial })
+            Ok(Taken { slot, serial, left })
         );
     }
     s
+}
+
+/// Counted over the bytes of that board: five slots a node, the first for waiting.
+fn empty_in_queue_of(s: &[u8], slot: u32) -> u32 {
+    let first = slot - slot % 5;
+    let queue = match slot % 5 {
+        0 => first..first + 1,
+        1 | 2 => first + 1..first + 3,
+        _ => first + 3..first + 5,
+    };
+    let empty = |slot: &u32| s[BEFORE + 16 * *slot as usize..][..16] == [0; 16];
+    queue.filter(empty).count() as u32
+}
+
+fn left_by_delivery(s: &mut [u8], slot: u32) -> u32 {
+    match make_move(s, slot, DELIVER) {
+        Ok(Moved::Delivered { left, .. }) => left,
+        answer => panic!("not delivered: {answer:?}"),
+    }
 }
 
 #[test]
@@ -123,8 +143,12 @@ fn following_find_delivers_every_packet() {
     assert_eq!(find(&s), Ok(Found { slot: 0, code: 1 }));
     while let Ok(Found { slot, code }) = find(&s) {
         moves += 1;
-        if let Moved::Delivered { packet } = make_move(&mut s, slot, code).unwrap() {
-            delivered.push(packet);
+        match make_move(&mut s, slot, code).unwrap() {
+            Moved::To { slot, left } => assert_eq!(left, empty_in_queue_of(&s, slot)),
+            Moved::Delivered { packet, left } => {
+                assert_eq!(left, empty_in_queue_of(&s, slot));
+                delivered.push(packet);
+            }
         }
         assert_eq!(full_check(&s), Ok(()));
     }
@@ -170,11 +194,30 @@ fn a_full_queue_refuses() {
     let mut s = [0; 112];
     clear(&mut s, 2, 1, 1).unwrap();
     take_in(&mut s, node(0, 0), node(1, 0), [1; 8]).unwrap();
-    assert_eq!(make_move(&mut s, 0, 1), Ok(Moved::To { slot: 1 }));
-    assert_eq!(make_move(&mut s, 1, 2), Ok(Moved::To { slot: 4 }));
+    assert_eq!(make_move(&mut s, 0, 1), Ok(Moved::To { slot: 1, left: 0 }));
+    assert_eq!(make_move(&mut s, 1, 2), Ok(Moved::To { slot: 4, left: 0 }));
     take_in(&mut s, node(0, 0), node(1, 0), [2; 8]).unwrap();
-    assert_eq!(make_move(&mut s, 0, 1), Ok(Moved::To { slot: 1 }));
+    assert_eq!(make_move(&mut s, 0, 1), Ok(Moved::To { slot: 1, left: 0 }));
     assert_eq!(make_move(&mut s, 1, 2), Err(Refusal::NoRoom));
+}
+
+#[test]
+fn moves_tell_how_many_slots_are_left() {
+    let mut s = [0; 256];
+    clear(&mut s, 1, 1, 7).unwrap();
+    for (slot, left) in (8..).zip([6, 5, 4, 3]) {
+        take_in(&mut s, 0, 0, [1; 8]).unwrap();
+        assert_eq!(make_move(&mut s, 0, 1), Ok(Moved::To { slot, left }));
+    }
+    s[16 * 12] = 2;
+    take_in(&mut s, 0, 0, [1; 8]).unwrap();
+    let past_the_spoiled_slot = Moved::To { slot: 13, left: 1 };
+    assert_eq!(make_move(&mut s, 0, 1), Ok(past_the_spoiled_slot));
+    for (slot, left) in (8..).zip([2, 3, 4, 5]) {
+        assert_eq!(left_by_delivery(&mut s, slot), left);
+    }
+    s[16 * 12] = 0;
+    assert_eq!(left_by_delivery(&mut s, 13), 7);
 }
 
 #[test]

@@ -28,16 +28,26 @@ impl Answer {
         }
     }
 
-    pub fn line(&self) -> Option<String> {
+    /// The slots left that an accepted move tells.
+    pub fn left_by_a_move(&self) -> Option<usize> {
+        match self {
+            Answer::Move(Ok(Moved::To { left, .. } | Moved::Delivered { left, .. })) => Some(*left),
+            _ => None,
+        }
+    }
+
+    pub fn line(&self, left_when_refused: usize) -> Option<String> {
         let number = self.refusal().map_or(0, Refusal::number);
         let place = self.refusal().map_or(0, Refusal::place);
         let line = match self {
             Answer::Nothing => return None,
             Answer::Lent(length) => format!("slice {length}"),
             Answer::Clear(_) => format!("clear {number}"),
-            Answer::TakeIn(Ok(TakenIn { slot, serial })) => format!("take 0 {slot} {serial}"),
-            Answer::TakeIn(Err(_)) => format!("take {number} 0 0"),
-            Answer::Move(answer) => move_line(number, answer),
+            Answer::TakeIn(Ok(TakenIn { slot, serial, left })) => {
+                format!("take 0 {slot} {serial} {left}")
+            }
+            Answer::TakeIn(Err(_)) => format!("take {number} 0 0 {left_when_refused}"),
+            Answer::Move(answer) => move_line(number, answer, left_when_refused),
             Answer::Payload(Ok(bytes)) => format!("payload 0 {}", hexadecimal(bytes)),
             Answer::Payload(Err(_)) => format!("payload {number} -"),
             Answer::Check(_) => format!("check {number} {place}"),
@@ -52,13 +62,13 @@ impl Answer {
 }
 
 /// The record always has its 16 bytes: zeros unless a packet was delivered.
-fn move_line(number: u32, answer: &Result<Moved, Refusal>) -> String {
-    let (slot, record) = match answer {
-        Ok(Moved::To(slot)) => (*slot, [0; SLOT_BYTES]),
-        Ok(Moved::Delivered(record)) => (0, *record),
-        Err(_) => (0, [0; SLOT_BYTES]),
+fn move_line(number: u32, answer: &Result<Moved, Refusal>, left_when_refused: usize) -> String {
+    let (slot, record, left) = match answer {
+        Ok(Moved::To { slot, left }) => (*slot, [0; SLOT_BYTES], *left),
+        Ok(Moved::Delivered { record, left }) => (0, *record, *left),
+        Err(_) => (0, [0; SLOT_BYTES], left_when_refused),
     };
-    format!("move {number} {slot} {}", hexadecimal(&record))
+    format!("move {number} {slot} {} {left}", hexadecimal(&record))
 }
 
 pub fn hexadecimal(bytes: &[u8]) -> String {
@@ -80,7 +90,7 @@ mod tests {
     use crate::router::CheckFault;
 
     fn line(answer: Answer) -> String {
-        answer.line().unwrap_or_default()
+        answer.line(0).unwrap_or_default()
     }
 
     #[test]
@@ -93,8 +103,8 @@ mod tests {
     fn refused_answers_have_zeros_elsewhere() {
         let zeros = "0".repeat(32);
         let full = Refusal::NoEmptySlot;
-        assert_eq!(line(Answer::TakeIn(Err(full))), "take 6 0 0");
-        assert_eq!(line(Answer::Move(Err(full))), format!("move 6 0 {zeros}"));
+        assert_eq!(line(Answer::TakeIn(Err(full))), "take 6 0 0 0");
+        assert_eq!(line(Answer::Move(Err(full))), format!("move 6 0 {zeros} 0"));
         assert_eq!(
             line(Answer::Payload(Err(Refusal::SlotEmpty))),
             "payload 3 -"
@@ -113,15 +123,31 @@ mod tests {
 
     #[test]
     fn accepted_answers_say_what_the_paper_names() {
-        let taken = TakenIn { slot: 3, serial: 9 };
-        assert_eq!(line(Answer::TakeIn(Ok(taken))), "take 0 3 9");
+        let taken = TakenIn {
+            slot: 3,
+            serial: 9,
+            left: 4,
+        };
+        assert_eq!(line(Answer::TakeIn(Ok(taken))), "take 0 3 9 4");
         let found = Found { slot: 5, code: 6 };
         assert_eq!(line(Answer::Find(Ok(found))), "find 0 5 6");
         let record = [0xAB; SLOT_BYTES];
-        let delivered = Answer::Move(Ok(Moved::Delivered(record)));
-        assert_eq!(line(delivered), format!("move 0 0 {}", "ab".repeat(16)));
-        let moved = Answer::Move(Ok(Moved::To(12)));
-        assert_eq!(line(moved), format!("move 0 12 {}", "00".repeat(16)));
-        assert!(Answer::Nothing.line().is_none());
+        let delivered = Answer::Move(Ok(Moved::Delivered { record, left: 7 }));
+        assert_eq!(line(delivered), format!("move 0 0 {} 7", "ab".repeat(16)));
+        let moved = Answer::Move(Ok(Moved::To { slot: 12, left: 2 }));
+        assert_eq!(line(moved), format!("move 0 12 {} 2", "00".repeat(16)));
+        assert!(Answer::Nothing.line(0).is_none());
+    }
+
+    #[test]
+    fn only_accepted_moves_tell_slots_left_by_a_move() {
+        let to = Answer::Move(Ok(Moved::To { slot: 12, left: 2 }));
+        assert_eq!(to.left_by_a_move(), Some(2));
+        let record = [0xAB; SLOT_BYTES];
+        let delivered = Answer::Move(Ok(Moved::Delivered { record, left: 7 }));
+        assert_eq!(delivered.left_by_a_move(), Some(7));
+        let refused = Answer::Move(Err(Refusal::NotOffered));
+        assert_eq!(refused.left_by_a_move(), None);
+        assert_eq!(Answer::Check(Ok(())).left_by_a_move(), None);
     }
 }

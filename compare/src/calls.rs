@@ -1,6 +1,7 @@
 //! The calls as a set that a deliberate mistake can change one of.
 
 use crate::router::{self, Found, Moved, Refusal, TakenIn};
+use crate::script::Command;
 
 pub trait Calls {
     fn clear(&self, slice: &mut [u8], sizes: [u32; 3]) -> Result<(), Refusal> {
@@ -31,6 +32,11 @@ pub trait Calls {
 
     fn outward_copy(&self, slice: &[u8], second: &mut [u8]) -> Result<(), Refusal> {
         router::outward_copy(slice, second)
+    }
+
+    /// What the answer of a refused taking in or move has for the slots left.
+    fn left_when_refused(&self, _slice: &[u8], _command: Command) -> usize {
+        0
     }
 }
 

@@ -107,7 +107,7 @@ fn report(settings: &Settings, progress: &Progress) -> ExitCode {
     }
     let unlisted = progress.tally.unlisted();
     for what in &unlisted {
-        println!("not in document 01: {what}");
+        println!("not in documents 01 and 02: {what}");
     }
     println!("differences 0");
     match untested.is_empty() && unlisted.is_empty() {

@@ -20,11 +20,13 @@ pub struct Line {
     pub given: Option<Given>,
 }
 
-/// A command carried out and the refusal it got, if it got one.
+/// A command carried out, the refusal it got, if it got one, and the slots left if it was an
+/// accepted move.
 #[derive(Clone, Copy)]
 pub struct Given {
     pub command: Command,
     pub refusal: Option<Refusal>,
+    pub left_by_a_move: Option<usize>,
 }
 
 impl Memory {
@@ -89,13 +91,18 @@ pub fn run(script: &[u8], router: &dyn Calls) -> Vec<Line> {
             lines.push(malformed(index, Some(letter), offset));
             break;
         };
-        if let Some(text) = answer.line() {
-            let refusal = answer.refusal();
+        let left_when_refused = router.left_when_refused(&memory.slice, command);
+        if let Some(text) = answer.line(left_when_refused) {
+            let given = Given {
+                command,
+                refusal: answer.refusal(),
+                left_by_a_move: answer.left_by_a_move(),
+            };
             lines.push(Line {
                 index,
                 letter,
                 text,
-                given: Some(Given { command, refusal }),
+                given: Some(given),
             });
         }
         rest = after;
@@ -151,7 +158,7 @@ mod tests {
         let calls = b"C\x01\0\0\0\x01\0\0\0\x01\0\0\0T\0\0abcdefghP\0\0\0\0FNWD";
         let expected = [
             "clear 9",
-            "take 1 0 0",
+            "take 1 0 0 0",
             "payload 1 -",
             "check 1 0",
             "find 1 0 0",
@@ -191,16 +198,60 @@ mod tests {
         let expected = [
             "slice 113".to_string(),
             "clear 0".to_string(),
-            "take 0 0 0".to_string(),
+            "take 0 0 0 0".to_string(),
             "find 0 0 1".to_string(),
             "payload 0 7061796c6f616473".to_string(),
-            format!("move 0 1 {}", "00".repeat(16)),
+            format!("move 0 1 {} 0", "00".repeat(16)),
             "check 0 0".to_string(),
             "copy 0 0".to_string(),
             format!("bytes {shown}"),
             format!("second {copied}"),
         ];
         assert_eq!(texts(&script(&commands)), expected);
+    }
+
+    #[test]
+    fn the_slots_left_end_the_line() {
+        let take = Command::TakeIn {
+            source: 0,
+            destination: 0,
+            payload: [0; 8],
+        };
+        let enter = Command::Move { slot: 0, code: 1 };
+        let deliver = |slot| Command::Move { slot, code: 7 };
+        let commands = [
+            Command::Lend { length: 96 },
+            Command::Clear {
+                width: 1,
+                height: 1,
+                depth: 2,
+            },
+            take,
+            take,
+            enter,
+            enter,
+            take,
+            enter,
+            take,
+            enter,
+            deliver(3),
+            deliver(4),
+        ];
+        let zeros = "0".repeat(32);
+        let record = |serial| format!("01000000{serial:02}{}", "0".repeat(22));
+        let expected = [
+            "take 0 0 0 0".to_string(),
+            "take 6 0 0 0".to_string(),
+            format!("move 0 3 {zeros} 1"),
+            format!("move 3 0 {zeros} 0"),
+            "take 0 0 1 0".to_string(),
+            format!("move 0 4 {zeros} 0"),
+            "take 0 0 2 0".to_string(),
+            format!("move 6 0 {zeros} 0"),
+            format!("move 0 0 {} 1", record(0)),
+            format!("move 0 0 {} 2", record(1)),
+        ];
+        assert_eq!(texts(&script(&commands))[2..], expected);
     }
 
     #[test]

@@ -18,6 +18,9 @@ const CALLS: &[(u8, &str, &[u32])] = &[
     (b'O', "copy", &[0, 1, 9, 10]),
 ];
 
+/// How many slots an accepted move can leave empty: none, up to all of the deepest queue.
+const LEFT: RangeInclusive<usize> = 0..=7;
+
 const FAULTS: [&str; 3] = ["spoiled slot", "serial twice", "counts disagree"];
 
 #[derive(Default)]
@@ -25,6 +28,7 @@ pub struct Tally {
     /// By the call's letter and the number given.
     numbers: BTreeMap<(u8, u32), u64>,
     accepted_codes: BTreeMap<u32, u64>,
+    left_by_moves: BTreeMap<usize, u64>,
     faults: [u64; FAULTS.len()],
 }
 
@@ -41,6 +45,9 @@ impl Tally {
         let number = given.refusal.map_or(0, Refusal::number);
         let row = self.numbers.entry((given.command.letter(), number));
         *row.or_default() += 1;
+        if let Some(left) = given.left_by_a_move {
+            *self.left_by_moves.entry(left).or_default() += 1;
+        }
         match (given.command, given.refusal) {
             (Command::Move { code, .. }, None) => {
                 *self.accepted_codes.entry(code).or_default() += 1;
@@ -72,6 +79,10 @@ impl Tally {
         self.accepted_codes.get(&code).copied().unwrap_or_default()
     }
 
+    fn left(&self, slots: usize) -> u64 {
+        self.left_by_moves.get(&slots).copied().unwrap_or_default()
+    }
+
     /// Every number that a call can give, or gave.
     fn columns(&self) -> RangeInclusive<u32> {
         let listed = CALLS.iter().flat_map(|(_, _, can_give)| can_give.iter());
@@ -92,6 +103,9 @@ impl Tally {
         for code in CODES.filter(|code| self.accepted(*code) == 0) {
             untested.push(format!("no move of code {code} was accepted"));
         }
+        for slots in LEFT.filter(|slots| self.left(*slots) == 0) {
+            untested.push(format!("no move left {slots} slots empty"));
+        }
         for (fault, count) in FAULTS.iter().zip(self.faults) {
             if count == 0 {
                 untested.push(format!("10 was never given for: {fault}"));
@@ -100,7 +114,7 @@ impl Tally {
         untested
     }
 
-    /// What was given, by both sides alike, and document 01 gives to no such call.
+    /// What was given, by both sides alike, and documents 01 and 02 give to no such call.
     pub fn unlisted(&self) -> Vec<String> {
         let numbers = self.numbers.keys().copied();
         let numbers = numbers.filter(|(letter, number)| !may_give(*letter, *number));
@@ -109,7 +123,10 @@ impl Tally {
         let codes = self.accepted_codes.keys();
         let codes = codes.filter(|code| !CODES.contains(code));
         let codes = codes.map(|code| format!("a move of code {code} was accepted"));
-        numbers.chain(codes).collect()
+        let left = self.left_by_moves.keys();
+        let left = left.filter(|slots| !LEFT.contains(slots));
+        let left = left.map(|slots| format!("a move left {slots} slots empty"));
+        numbers.chain(codes).chain(left).collect()
     }
 
     pub fn table(&self) -> String {
@@ -124,6 +141,11 @@ impl Tally {
         let _ = write!(text, "\nmoves accepted by code {first} to {last}:");
         for code in CODES {
             let _ = write!(text, " {}", self.accepted(code));
+        }
+        let (least, most) = (LEFT.start(), LEFT.end());
+        let _ = write!(text, "\nmoves that left {least} to {most} slots empty:");
+        for slots in LEFT {
+            let _ = write!(text, " {}", self.left(slots));
         }
         for (fault, count) in FAULTS.iter().zip(self.faults) {
             let _ = write!(text, "\n10 given for {fault}: {count}");
@@ -149,18 +171,30 @@ mod tests {
     use super::*;
 
     fn given(command: Command, refusal: Option<Refusal>) -> Given {
-        Given { command, refusal }
+        Given {
+            command,
+            refusal,
+            left_by_a_move: None,
+        }
+    }
+
+    fn moved(code: u32, left: usize) -> Given {
+        Given {
+            left_by_a_move: Some(left),
+            ..given(Command::Move { slot: 0, code }, None)
+        }
     }
 
     #[test]
     fn counts_go_to_their_call_and_number() {
         let mut tally = Tally::default();
         tally.add(&given(Command::Find, Some(Refusal::NothingHeld)));
-        tally.add(&given(Command::Move { slot: 0, code: 7 }, None));
+        tally.add(&moved(7, 2));
         tally.add(&given(Command::Show, None));
         assert_eq!(tally.calls(), 2);
         assert_eq!((tally.count(b'N', 11), tally.count(b'M', 0)), (1, 1));
         assert_eq!((tally.accepted(6), tally.accepted(7)), (0, 1));
+        assert_eq!((tally.left(1), tally.left(2)), (0, 1));
         assert_eq!(tally.unlisted(), Vec::<String>::new());
     }
 
@@ -169,8 +203,10 @@ mod tests {
         let mut tally = Tally::default();
         let before = tally.untested();
         let numbers: usize = CALLS.iter().map(|(_, _, can_give)| can_give.len()).sum();
-        assert_eq!(before.len(), numbers + CODES.count() + FAULTS.len());
+        let told = CODES.count() + LEFT.count();
+        assert_eq!(before.len(), numbers + told + FAULTS.len());
         assert!(before.contains(&"take in never answered 7".to_string()));
+        assert!(before.contains(&"no move left 0 slots empty".to_string()));
         let fault = Refusal::CheckFailed(CheckFault::SerialTwice(1));
         tally.add(&given(Command::Check, Some(fault)));
         let after = tally.untested();
@@ -182,8 +218,13 @@ mod tests {
     fn what_no_call_may_give_is_named() {
         let mut tally = Tally::default();
         tally.add(&given(Command::Find, Some(Refusal::WrongLength)));
-        tally.add(&given(Command::Move { slot: 0, code: 8 }, None));
-        let named = ["N was answered 9", "a move of code 8 was accepted"];
+        tally.add(&moved(8, 7));
+        tally.add(&moved(7, 8));
+        let named = [
+            "N was answered 9",
+            "a move of code 8 was accepted",
+            "a move left 8 slots empty",
+        ];
         assert_eq!(tally.unlisted(), named);
     }
 
@@ -191,7 +232,7 @@ mod tests {
     fn the_table_has_a_row_a_call_and_a_column_a_number() {
         let tally = Tally::default();
         let table = tally.table();
-        assert_eq!(table.lines().count(), 1 + CALLS.len() + 1 + FAULTS.len());
+        assert_eq!(table.lines().count(), 1 + CALLS.len() + 2 + FAULTS.len());
         let words = |start: &str| -> Vec<String> {
             let row = table.lines().find(|line| line.starts_with(start));
             let words = row.unwrap_or_default().split_whitespace();

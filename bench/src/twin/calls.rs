@@ -6,12 +6,14 @@ pub struct Taken {
     pub number: u32,
     pub slot: u32,
     pub serial: u32,
+    pub left: u32,
 }
 
 pub struct Moved {
     pub number: u32,
     pub slot: u32,
     pub packet: [u8; 16],
+    pub left: u32,
 }
 
 pub fn clear(s: &mut [u8], width: u32, height: u32, depth: u32) -> u32 {
@@ -40,6 +42,7 @@ pub fn take_in(s: &mut [u8], source: u8, destination: u8, payload: &[u8; 8]) -> 
         number,
         slot: 0,
         serial: 0,
+        left: 0,
     };
     let Some(h) = layout::head(s) else {
         return refused(1);
@@ -70,10 +73,12 @@ pub fn take_in(s: &mut [u8], source: u8, destination: u8, payload: &[u8; 8]) -> 
     v[8..].copy_from_slice(payload);
     let counts = t.len() - 12;
     t[counts..counts + 4].copy_from_slice(&(h.taken + 1).to_le_bytes());
+    // The queue is the one waiting slot, and now full.
     Taken {
         number: 0,
         slot: k as u32,
         serial: h.taken,
+        left: 0,
     }
 }
 
@@ -103,8 +108,16 @@ pub fn lead(p: Place, destination: u8, code: u32) -> Option<Lead> {
     }
 }
 
-/// The first refusal that is due, or where the packet goes: out, or to a slot.
-pub fn verdict(t: &[u8], h: &Head, slot: usize, code: u32) -> Result<Option<(usize, u8)>, u32> {
+/// What an accepted move does.
+pub struct Going {
+    /// Out, or to a slot with so many hops more.
+    to: Option<(usize, u8)>,
+    /// The queue whose empty slots are counted: where the packet goes or, if out, where it was.
+    queue: Place,
+}
+
+/// The first refusal that is due, or where the packet goes.
+pub fn verdict(t: &[u8], h: &Head, slot: usize, code: u32) -> Result<Going, u32> {
     if !(1..=7).contains(&code) || slot >= h.slots() {
         return Err(2);
     }
@@ -118,10 +131,14 @@ pub fn verdict(t: &[u8], h: &Head, slot: usize, code: u32) -> Result<Option<(usi
     }
     match lead(p, v[2], code) {
         None => Err(5),
-        Some(Lead::Out) => Ok(None),
-        Some(Lead::To(target, more)) => {
-            layout::room(t, h, target).map(|k| Some((k, more))).ok_or(6)
-        }
+        Some(Lead::Out) => Ok(Going { to: None, queue: p }),
+        Some(Lead::To(queue, more)) => match layout::room(t, h, queue) {
+            None => Err(6),
+            Some(k) => Ok(Going {
+                to: Some((k, more)),
+                queue,
+            }),
+        },
     }
 }
 
@@ -130,6 +147,7 @@ pub fn make_move(s: &mut [u8], slot: u32, code: u32) -> Moved {
         number,
         slot: 0,
         packet: [0; 16],
+        left: 0,
     };
     let Some(h) = layout::head(s) else {
         return refused(1);
@@ -143,24 +161,22 @@ pub fn make_move(s: &mut [u8], slot: u32, code: u32) -> Moved {
     };
     let mut packet = *layout::slot(t, k);
     t[16 * k..16 * k + 16].fill(0);
-    match going {
+    let (slot, packet) = match going.to {
         None => {
             let counts = t.len() - 8;
             t[counts..counts + 4].copy_from_slice(&(h.delivered + 1).to_le_bytes());
-            Moved {
-                number: 0,
-                slot: 0,
-                packet,
-            }
+            (0, packet)
         }
         Some((to, more)) => {
             packet[3] += more;
             t[16 * to..16 * to + 16].copy_from_slice(&packet);
-            Moved {
-                number: 0,
-                slot: to as u32,
-                packet: [0; 16],
-            }
+            (to as u32, [0; 16])
         }
+    };
+    Moved {
+        number: 0,
+        slot,
+        packet,
+        left: layout::left(t, &h, going.queue),
     }
 }

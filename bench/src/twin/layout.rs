@@ -130,3 +130,10 @@ pub fn room(t: &[u8], h: &Head, p: Place) -> Option<usize> {
     let (first, n) = queue(h, p);
     (first..first + n).find(|&k| is_empty(slot(t, k)))
 }
+
+/// How many slots of a queue are empty.
+pub fn left(t: &[u8], h: &Head, p: Place) -> u32 {
+    let (first, n) = queue(h, p);
+    let (slots, _) = t[16 * first..16 * (first + n)].as_chunks();
+    slots.iter().map(|v| u32::from(is_empty(v))).sum()
+}

@@ -1,4 +1,5 @@
-//! Spoiled slots in target queues and waiting slots: they never count as empty.
+//! Spoiled slots in waiting slots and in the queues whose empty slots a move counts: they never
+//! count as empty.
 
 use super::acts::{self, Mood};
 use super::bench::Bench;
@@ -15,20 +16,20 @@ pub fn make(bench: &mut Bench) {
         for _ in 0..20 {
             if bench.open() {
                 traffic::spell(bench, 8);
-                move_into_a_spoiled_queue(bench);
+                move_by_a_spoiled_queue(bench);
                 take_in_at_a_spoiled_slot(bench);
             }
         }
     }
 }
 
-fn move_into_a_spoiled_queue(bench: &mut Bench) {
+fn move_by_a_spoiled_queue(bench: &mut Bench) {
     let Some(slot) = bench.held_slot() else {
         return;
     };
     let codes = acts::codes_for(bench, slot);
     let code = bench.dice.pick(&codes);
-    let Some(queue) = target_queue(bench, slot, code) else {
+    let Some(queue) = counted_queue(bench, slot, code) else {
         return;
     };
     let spoiled = spoil(bench, queue);
@@ -37,17 +38,19 @@ fn move_into_a_spoiled_queue(bench: &mut Bench) {
     restore(bench, &spoiled);
 }
 
-fn target_queue(bench: &Bench, slot: u32, code: u32) -> Option<Range<usize>> {
+/// The queue that the packet would go into or, delivered, come out of.
+fn counted_queue(bench: &Bench, slot: u32, code: u32) -> Option<Range<usize>> {
     let table = bench.table()?;
     let slot = usize::try_from(slot).ok()?;
     let place = table.trailer.grid.place_of(slot)?;
     let Slot::Good(packet) = table.slot(slot)? else {
         return None;
     };
-    match offered(place, packet.destination, code)? {
-        Step::Queue(target) | Step::Hop(target) => Some(table.trailer.grid.queue(target)),
-        Step::Delivery => None,
-    }
+    let counted = match offered(place, packet.destination, code)? {
+        Step::Queue(target) | Step::Hop(target) => target,
+        Step::Delivery => place,
+    };
+    Some(table.trailer.grid.queue(counted))
 }
 
 fn take_in_at_a_spoiled_slot(bench: &mut Bench) {

@@ -1,5 +1,6 @@
 //! Second routers with one deliberate mistake each: the comparison must find every one of them.
 
+mod left;
 mod moving;
 mod slots;
 mod taking;
@@ -8,6 +9,13 @@ mod whole_table;
 use crate::calls::Calls;
 
 pub const MISTAKES: &[(&str, &dyn Calls)] = &[
+    ("delivery-counts-before", &left::DeliveryCountsBefore),
+    ("delivery-counts-spoiled", &left::DeliveryCountsSpoiled),
+    ("move-counts-before", &left::MoveCountsBefore),
+    ("move-counts-spoiled", &left::MoveCountsSpoiled),
+    ("refused-move-counts", &left::RefusedMoveCounts),
+    ("refused-take-counts", &left::RefusedTakeCounts),
+    ("take-counts-before", &left::TakeCountsBefore),
     ("cuts-numbers", &moving::CutsNumbers),
     ("code-after-slot", &moving::CodeAfterSlot),
     ("delivers-without-count", &moving::DeliversWithoutCount),

@@ -1,6 +1,6 @@
 //! Mistakes in moving.
 
-use super::slots::{judged, place_of, put_slot_bytes, slot_bytes};
+use super::slots::{judged, place_of, put_slot_bytes, queue_of, slot_bytes};
 use crate::calls::Calls;
 use crate::router::{
     make_move, read_payload, Kind, Moved, Node, Packet, Place, Refusal, Slot, Table, CODES,
@@ -36,7 +36,7 @@ impl Calls for DeliversWithoutCount {
     fn make_move(&self, slice: &mut [u8], slot: u32, code: u32) -> Answer {
         let before = Table::open_to_write(slice).map(|table| table.trailer);
         let answer = make_move(slice, slot, code);
-        if let (Ok(Moved::Delivered(_)), Ok(before)) = (answer, before) {
+        if let (Ok(Moved::Delivered { .. }), Ok(before)) = (answer, before) {
             if let Ok(mut table) = Table::open_to_write(slice) {
                 table.put_trailer(before);
             }
@@ -65,7 +65,10 @@ impl FallInA {
         let hops = packet.hops.saturating_add(1);
         table.put_packet(target, &Packet { hops, ..packet });
         table.put_empty(slot);
-        Some(Moved::To(target))
+        Some(Moved::To {
+            slot: target,
+            left: table.left_in_queue_of(target),
+        })
     }
 }
 
@@ -85,22 +88,18 @@ pub struct HighestSlot;
 impl Calls for HighestSlot {
     fn make_move(&self, slice: &mut [u8], slot: u32, code: u32) -> Answer {
         let answer = make_move(slice, slot, code)?;
-        let Moved::To(lowest) = answer else {
+        let Moved::To { slot: lowest, left } = answer else {
             return Ok(answer);
         };
-        let Ok(table) = Table::open(slice) else {
-            return Ok(answer);
-        };
-        let grid = table.trailer.grid;
-        let mut queue = grid
-            .place_of(lowest)
-            .map_or(0..0, |place| grid.queue(place));
-        let empty = |slot: &usize| table.slot(*slot) == Some(Slot::Empty);
-        let highest = queue.rfind(empty).unwrap_or(lowest);
+        let empty = |slot: &usize| judged(slice, *slot) == Some(Slot::Empty);
+        let highest = queue_of(slice, lowest).rfind(empty).unwrap_or(lowest);
         let packet = slot_bytes(slice, lowest);
         put_slot_bytes(slice, lowest, &[0; 16]);
         put_slot_bytes(slice, highest, &packet);
-        Ok(Moved::To(highest))
+        Ok(Moved::To {
+            slot: highest,
+            left,
+        })
     }
 }
 
@@ -110,7 +109,7 @@ pub struct HopsToGo;
 impl Calls for HopsToGo {
     fn make_move(&self, slice: &mut [u8], slot: u32, code: u32) -> Answer {
         let answer = make_move(slice, slot, code)?;
-        if let Moved::To(target) = answer {
+        if let Moved::To { slot: target, .. } = answer {
             let here = u32::try_from(target).ok();
             let place = here.and_then(|here| place_of(slice, here));
             if let (Some(Slot::Good(packet)), Some(place)) = (judged(slice, target), place) {

@@ -1,6 +1,6 @@
 //! Bytes of slots, read and written past the router.
 
-use crate::router::{Grid, Place, Slot, Table, Trailer, SLOT_BYTES};
+use crate::router::{Grid, Kind, Node, Place, Slot, Table, Trailer, SLOT_BYTES};
 use std::ops::Range;
 
 pub fn grid(slice: &[u8]) -> Option<Grid> {
@@ -9,6 +9,20 @@ pub fn grid(slice: &[u8]) -> Option<Grid> {
 
 pub fn place_of(slice: &[u8], slot: u32) -> Option<Place> {
     grid(slice)?.place_of(usize::try_from(slot).ok()?)
+}
+
+/// The slots of the queue that the slot is one of.
+pub fn queue_of(slice: &[u8], slot: usize) -> Range<usize> {
+    let queue = |grid: Grid| grid.place_of(slot).map(|place| grid.queue(place));
+    grid(slice).and_then(queue).unwrap_or_default()
+}
+
+pub fn waiting_slot_of(slice: &[u8], node: u8) -> Option<usize> {
+    let grid = grid(slice)?;
+    let node = Node::from_byte(node);
+    let kind = Kind::Waiting;
+    grid.holds(node)
+        .then(|| grid.queue(Place { node, kind }).start)
 }
 
 pub fn judged(slice: &[u8], slot: usize) -> Option<Slot> {

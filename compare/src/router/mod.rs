@@ -1,5 +1,5 @@
-//! The second router, written from document 01 alone: the calls decode what they need of the
-//! lent slice into structs, work on those, and encode the result back.
+//! The second router, written from documents 01 and 02 alone: the calls decode what they need of
+//! the lent slice into structs, work on those, and encode the result back.
 
 mod check;
 mod clear;

@@ -10,8 +10,13 @@ use super::trailer::Trailer;
 
 #[derive(Clone, Copy, Debug, PartialEq, Eq)]
 pub enum Moved {
-    To(usize),
-    Delivered([u8; SLOT_BYTES]),
+    /// `left` are the empty slots of the queue that the packet went into.
+    To { slot: usize, left: usize },
+    /// `left` are the empty slots of the queue that the packet came out of.
+    Delivered {
+        record: [u8; SLOT_BYTES],
+        left: usize,
+    },
 }
 
 /// What an acceptable move would do, with the packet as it would then be.
@@ -28,7 +33,10 @@ pub fn make_move(slice: &mut [u8], slot: u32, code: u32) -> Result<Moved, Refusa
     match landing {
         Landing::In(target, packet) => {
             table.put_packet(target, &packet);
-            Ok(Moved::To(target))
+            Ok(Moved::To {
+                slot: target,
+                left: table.left_in_queue_of(target),
+            })
         }
         Landing::Delivery(packet) => {
             // A good packet means delivered is below taken: the sum stays in range.
@@ -37,7 +45,10 @@ pub fn make_move(slice: &mut [u8], slot: u32, code: u32) -> Result<Moved, Refusa
                 delivered,
                 ..table.trailer
             });
-            Ok(Moved::Delivered(packet.encode()))
+            Ok(Moved::Delivered {
+                record: packet.encode(),
+                left: table.left_in_queue_of(slot),
+            })
         }
     }
 }

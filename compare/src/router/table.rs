@@ -74,6 +74,14 @@ impl<Bytes: AsRef<[u8]>> Table<Bytes> {
         let mut slots = self.trailer.grid.queue(queue);
         slots.find(|slot| self.slot(*slot) == Some(Slot::Empty))
     }
+
+    /// How many slots are empty in the queue that the slot is one of.
+    pub fn left_in_queue_of(&self, slot: usize) -> usize {
+        let grid = self.trailer.grid;
+        let queue = grid.place_of(slot).map_or(0..0, |place| grid.queue(place));
+        let empty = |slot: &usize| self.slot(*slot) == Some(Slot::Empty);
+        queue.filter(empty).count()
+    }
 }
 
 fn slot_range(slot: usize) -> Option<Range<usize>> {

@@ -10,6 +10,8 @@ use super::trailer::Trailer;
 pub struct TakenIn {
     pub slot: usize,
     pub serial: u32,
+    /// The empty slots of the queue that the packet went into.
+    pub left: usize,
 }
 
 pub fn take_in(
@@ -39,6 +41,9 @@ pub fn take_in(
     let slot = table.lowest_empty(waiting).ok_or(Refusal::NoEmptySlot)?;
     table.put_packet(slot, &packet);
     table.put_trailer(Trailer { taken, ..trailer });
-    let serial = packet.serial;
-    Ok(TakenIn { slot, serial })
+    Ok(TakenIn {
+        slot,
+        serial: packet.serial,
+        left: table.left_in_queue_of(slot),
+    })
 }

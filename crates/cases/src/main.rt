@@ -1,4 +1,4 @@
-// Document 01's cases that are run and not proved, one call of every refusal, and a slot that the next packet takes at once.
+// Document 01's cases that are run and not proved, one call of every refusal, a slot that the next packet takes at once, and order 1's room left.
 
 use survey::checking;
 use survey::checking::PlacedAnswer;
@@ -26,6 +26,12 @@ fn bytes(s: &[u8]) {
     }
 }
 
+fn left(n: u32) {
+    say(b" left ");
+    number(n);
+    say(b"\n");
+}
+
 fn clear(s: &mut [u8], width: u32, height: u32, depth: u32) {
     say(b"clear ");
     number(router::clear(s, width, height, depth));
@@ -40,7 +46,7 @@ fn take_in(s: &mut [u8], source: u8, destination: u8) {
     number(t.slot);
     say(b" serial ");
     number(t.serial);
-    say(b"\n");
+    left(t.left);
 }
 
 fn make_move(s: &mut [u8], slot: u32, code: u32) {
@@ -52,7 +58,7 @@ fn make_move(s: &mut [u8], slot: u32, code: u32) {
     number(m.slot);
     say(b" record");
     bytes(&packet);
-    say(b"\n");
+    left(m.left);
 }
 
 fn read_payload(s: &[u8], slot: u32) {
@@ -156,6 +162,21 @@ fn slot_reused() {
     make_move(&mut t, 4, 7);
     read_payload(&t, 1);
     show(&t);
+}
+
+// Depth 3: the room left in A at (0,0), then in A at (1,0) with a spoiled slot in it, and after a delivery from there.
+fn room_left() {
+    say(b"room left\n");
+    let mut t = [0u8; 240];
+    clear(&mut t, 2, 1, 3);
+    take_in(&mut t, 0, 1);
+    make_move(&mut t, 0, 1);
+    take_in(&mut t, 0, 1);
+    make_move(&mut t, 0, 1);
+    make_move(&mut t, 1, 2);
+    t[159] = 1;
+    make_move(&mut t, 2, 2);
+    make_move(&mut t, 8, 7);
 }
 
 // A slice too short for a trailer, and a trailer that is not good.
@@ -311,6 +332,7 @@ fn main() {
     at_home();
     queue_full();
     slot_reused();
+    room_left();
     bad_trailer();
     every_field();
     out_of_range();

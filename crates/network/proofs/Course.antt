@@ -1,12 +1,14 @@
 -- One packet's move: it stays good, grows lighter, and is bound for the same delivery.
 -- Assumes nothing.
 use mathlib.Core.Path.{_≡_, refl, sym, ap, subst, _∙_}
+use mathlib.Core.Logic.{_≢_}
 use mathlib.Core.Bool.{true}
 use Prim.Native.Nat.{ℕ, suc, _+_, _<_}
 use native.Mathlib.Omega.{arith}
 use borrow.Author.Tests.{ltb-true, eqb-true, lt-ltb, eq-eqb}
 use Rattle.network.specs.declared.Kind.{Kind}
 use Rattle.network.specs.declared.Kind.the-variants.{Waiting, A, B}
+use Rattle.network.specs.declared.Place.{Place}
 use Rattle.network.specs.declared.Lead.the-variants.{Hop, Turn, Out}
 use Rattle.network.specs.Net.{Net, NetLaws, RuleLaws, at, beside}
 use Rattle.network.specs.Packet.{Item, fitsKind, good, GoodItem, offer, withHops, hopped, turned, handed, weight, bound}
@@ -113,6 +115,18 @@ module _ (N : Net) (L : NetLaws N) (taken delivered : ℕ) (x : Item) (g : GoodI
     unfolding weight
     led-lighter (by-hop n e f) = rw f (omega (arith, laws .hop-nearer (x .place .kind) code n e))
     led-lighter (by-turn k e f) = rw f (omega (arith, laws .turn-down (x .place .kind) k code e))
+
+    -- a move's own queue and its target always differ
+    pub led-elsewhere : Led N x code y → x .place ≢ y .place
+    led-elsewhere (by-hop n e f) q =
+        let stays : x .place .node ≡ n = ap (λ (p : Place). p .node) (q ∙ ap (λ (i : Item). i .place) f) in
+        let same : N .distance (x .place .node) (x .packet .destination) ≡ N .distance n (x .packet .destination)
+        = ap (λ m. N .distance m (x .packet .destination)) stays in
+        omega (arith, laws .hop-nearer (x .place .kind) code n e)
+    led-elsewhere (by-turn k e f) q =
+        let stays : x .place .kind ≡ k = ap (λ (p : Place). p .kind) (q ∙ ap (λ (i : Item). i .place) f) in
+        let same : beside (x .place .kind) ≡ beside k = ap beside stays in
+        omega (arith, laws .turn-down (x .place .kind) k code e)
 
     pub led-bound : Led N x code y → bound N y ≡ bound N x
     unfolding bound

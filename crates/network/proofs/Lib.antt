@@ -1,5 +1,6 @@
 pub mod Tests
 pub mod SearchLaws
+pub mod CountingLaws
 pub mod Lists
 pub mod Course
 pub mod Kept

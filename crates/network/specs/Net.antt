@@ -1,9 +1,10 @@
 -- A packet network: its nodes, the distance between them, the rule of moves; and the laws that demand 3 rests on.
 -- Assumes nothing.
 use mathlib.Core.Path.{_≡_}
-use mathlib.Core.Bool.{Bool, true, false}
+use mathlib.Core.Bool.{Bool, true, false, _&&_}
 use mathlib.Core.Logic.{_⊎_}
 use Prim.Native.Nat.{ℕ, suc, _+_, _<_, _≤_}
+use lib.Dec.{eqb}
 use Rattle.network.specs.declared.Kind.{Kind}
 use Rattle.network.specs.declared.Kind.the-variants.{Waiting, A, B}
 use Rattle.network.specs.declared.Place.{Place}
@@ -12,6 +13,16 @@ use Rattle.network.specs.declared.Lead.the-variants.{Hop, Turn, Out, Not
 
 abbrev pub at : ℕ → Kind → Place
 at n k = record { node = n; kind = k }
+
+-- the kinds by number
+abbrev pub kindNumber : Kind → ℕ
+kindNumber Waiting = 0
+kindNumber A = 1
+kindNumber B = 2
+
+-- are two places one?
+abbrev pub samePlace : Place → Place → Bool
+samePlace p q = eqb (p .node) (q .node) && eqb (kindNumber (p .kind)) (kindNumber (q .kind))
 
 pub record Net : Type 0 where
   -- the nodes that there are

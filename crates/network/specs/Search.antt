@@ -1,4 +1,4 @@
--- The lowest number with a property: slots, codes and faults are all looked for so.
+-- The lowest number with a property, by which slots, codes and faults are all looked for; and how many numbers have one.
 -- Assumes nothing.
 use Prim.Native.Nat.{ℕ, zero, suc, _+_, _≤_, _<_}
 use mathlib.Core.Path.{_≡_}
@@ -10,6 +10,11 @@ use Rattle.network.specs.declared.Lowest.the-variants.{At, Nowhere}
 abbrev pub lowestWith : (ℕ → Bool) → ℕ → ℕ → Lowest
 lowestWith p k zero = Nowhere
 lowestWith p k (suc n) = cond (p k) (At k) (lowestWith p (suc k) n)
+
+-- how many of the n numbers from k on have a property
+abbrev pub countWith : (ℕ → Bool) → ℕ → ℕ → ℕ
+countWith p k zero = 0
+countWith p k (suc n) = let rest = countWith p (suc k) n in cond (p k) (suc rest) rest
 
 -- was there one, and which
 abbrev pub isAt : Lowest → Bool

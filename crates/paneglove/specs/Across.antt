@@ -31,13 +31,13 @@ abbrev pub across : {A B C : Type 0} → (A → B) → Outcome A C → Outcome B
 across f o = outcome (f (o .answer)) (o .bytes)
 
 abbrev pub takeAcross : taking.Taken → Taken
-takeAcross a = record { number = a .number; slot = a .slot; serial = a .serial }
+takeAcross a = record { number = a .number; slot = a .slot; serial = a .serial; left = a .left }
 
 unfoldable pub takenAcross : List ℕ → ℕ → ℕ → List ℕ → Outcome Taken (List ℕ)
 takenAcross s source destination payload = across takeAcross (takenSlice s source destination payload)
 
 abbrev pub moveAcross : moving.Moved → Moved
-moveAcross a = record { number = a .number; slot = a .slot; packet = a .packet }
+moveAcross a = record { number = a .number; slot = a .slot; packet = a .packet; left = a .left }
 
 unfoldable pub movedAcross : List ℕ → ℕ → ℕ → Outcome Moved (List ℕ)
 movedAcross s slot code = across moveAcross (movedSlice s slot code)

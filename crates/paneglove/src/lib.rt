@@ -23,6 +23,7 @@ pub struct Taken {
     pub number: u32,
     pub slot: u32,
     pub serial: u32,
+    pub left: u32,
 }
 
 #[repr(C)]
@@ -30,6 +31,7 @@ pub struct Moved {
     pub number: u32,
     pub slot: u32,
     pub packet: [u8; 16],
+    pub left: u32,
 }
 
 #[repr(C)]
@@ -87,6 +89,7 @@ pub extern "C" fn paneglove_take_in(
         number: a.number,
         slot: a.slot,
         serial: a.serial,
+        left: a.left,
     }
 }
 
@@ -102,6 +105,7 @@ pub extern "C" fn paneglove_make_move(s: &mut [u8], slot: u32, code: u32) -> Mov
         number: a.number,
         slot: a.slot,
         packet,
+        left: a.left,
     }
 }
 

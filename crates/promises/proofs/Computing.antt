@@ -10,7 +10,7 @@ use Rattle.board.specs.Board.{boardOk, netOf, publishedOn}
 use Rattle.board.specs.Layout.{layoutOf}
 use Rattle.trailer.specs.Trailer.{headOk, trailerOf, withTaken, withDelivered, trailerBytes, fresh}
 use Rattle.table.specs.Packets.{goodAt}
-use Rattle.table.specs.Queues.{roomAt}
+use Rattle.table.specs.Queues.{roomAt, emptiesAt}
 use Rattle.table.specs.Carriage.{vacated, carried}
 use Rattle.router.specs.Clear.{clearedAs, clearedSlice}
 use Rattle.router.specs.TakeIn.{newRecord, tookIn, takenIn, takenSlice}
@@ -26,7 +26,7 @@ bytes = tt
 
 -- the rule of moves, the packets and the queues
 unfoldable pub rules : Unit {0}
-unfolding bytes netOf publishedOn distanceOf stepOf signsOf ruled published weight good goodAt roomAt vacated carried
+unfolding bytes netOf publishedOn distanceOf stepOf signsOf ruled published weight good goodAt roomAt emptiesAt vacated carried
 rules = tt
 
 -- the calls

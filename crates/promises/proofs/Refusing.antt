@@ -18,7 +18,7 @@ use Rattle.router.specs.Clear.{used, clearRows, clearedAs, clearedSlice}
 use Rattle.router.specs.TakeIn.{refusal as takeRefusal, takeRows, tookIn, takenIn, takenSlice}
 use Rattle.calls.specs.Slices.{headIn, tableIn, GoodIn, netIn}
 use Rattle.promises.specs.Conditions.{HasEmpty}
-use Rattle.promises.specs.Demand1.{Grounds, end, ground, First, clearGrounds, takeGrounds, Refuses}
+use Rattle.promises.specs.Demand1.{Grounds, end, ground, First, clearGrounds, takeGrounds, Refuses, NothingTaken}
 use Rattle.promises.proofs.Unchanged.{clear-refused, take-refused}
 use Rattle.promises.proofs.Conditions.{full-none, room-has-empty}
 use Rattle.promises.proofs.Grounds.{Tells, later, not-due, not-both, first-joined, first-answered, first-on-table, refuses}
@@ -93,8 +93,8 @@ module _ (s : List ℕ) (source destination : ℕ) where
         (λ g. first-joined 2 _ counted inl inr on-both (take-each g))
 
     pub take-refuses :
-        Refuses (λ (a : Taken). a .number) (λ a. (a .slot ≡ 0) × (a .serial ≡ 0)) (takeGrounds s source destination) s
+        Refuses (λ (a : Taken). a .number) NothingTaken (takeGrounds s source destination) s
         (takenSlice s source destination payload)
     take-refuses =
-        refuses (λ a. a .number) takeRefusal (λ n. refl) (λ a. (a .slot ≡ 0) × (a .serial ≡ 0)) (λ n. (refl, refl)) _ s _
+        refuses (λ a. a .number) takeRefusal (λ n. refl) NothingTaken (λ n. (refl, refl, refl)) _ s _
         (take-refused s source destination payload) take-first

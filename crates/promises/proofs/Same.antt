@@ -27,7 +27,7 @@ use Rattle.table.specs.Calls.{Outcome}
 use Rattle.router.specs.declared.moving.Moved.{Moved}
 use Rattle.router.specs.declared.taking.Taken.{Taken}
 use Rattle.calls.specs.Slices.{Bytes, headIn, boardIn, GoodIn, layoutIn, slotsIn, slotIn, placeIn}
-use Rattle.promises.specs.Conditions.{SpoiledAt, RepeatsAt, NoneBelow, FaultAt, spoiled, repeated, miscounted, EmptyOf}
+use Rattle.promises.specs.Conditions.{SpoiledAt, RepeatsAt, NoneBelow, FaultAt, spoiled, repeated, miscounted, EmptyOf, roomLeft}
 use Rattle.promises.specs.Demand1.{Grounds, end, Refuses, Placed}
 use Rattle.promises.specs.Demand2.{Kept, Goes, Leaves, OneStep, Shows}
 use Rattle.promises.specs.Answers.{Fresh, Enters}
@@ -94,7 +94,6 @@ module _ (s : List ℕ) (g : GoodIn s) (slot : ℕ) (o w : Outcome Moved (List �
   goes-same : (target : Place) (more : ℕ) → Goes s slot target more o → Goes s slot target more w → o ≡ w
   goes-same target more a c =
       let one : a .to ≡ c .to = omega (arith, a .lowest .least (c .to) (c .lowest .one), c .lowest .least (a .to) (a .lowest .one)) in
-      let answer : o .answer ≡ w .answer = a .answer ∙ (λ i. record { number = 0; slot = one i; packet = emptySlot }) ∙ sym (c .answer) in
       let d : Kept s (w .bytes) (λ i. (i ≡ slot) ⊎ (i ≡ a .to)) = rw one (c .rest) in
       let slots : (k : ℕ) → k < slotsIn s → slotIn (o .bytes) k ≡ slotIn (w .bytes) k = λ k l. elim (ℕ-discrete k slot) [
         | yes e ↦ rw e (a .gone ∙ sym (c .gone))
@@ -104,6 +103,8 @@ module _ (s : List ℕ) (g : GoodIn s) (slot : ℕ) (o w : Outcome Moved (List �
         ]
       ] in
       let bytes = kept-told s (o .bytes) (w .bytes) g _ (a .rest) d (ap (drop 12) (a .trailer)) (a .trailer ∙ sym (c .trailer)) slots in
+      let answer : o .answer ≡ w .answer =
+      a .answer ∙ (λ i. record { number = 0; slot = one i; packet = emptySlot; left = roomLeft (bytes i) target }) ∙ sym (c .answer) in
       λ i. record { answer = answer i; bytes = bytes i }
     where
       apart : {to : ℕ} (k : ℕ) → k ≢ slot → k ≢ to → (k ≡ slot) ⊎ (k ≡ to) → ⊥
@@ -112,7 +113,6 @@ module _ (s : List ℕ) (g : GoodIn s) (slot : ℕ) (o w : Outcome Moved (List �
 
   leaves-same : Bytes (o .bytes) → Bytes (w .bytes) → Leaves s slot o → Leaves s slot w → o ≡ w
   leaves-same b d a c =
-      let answer : o .answer ≡ w .answer = a .answer ∙ sym (c .answer) in
       let long = g .long in
       let last = last-told (o .bytes) (w .bytes) b d (omega (arith, a .rest .long)) (omega (arith, c .rest .long)) 8 (omega arith) (a .first-bytes ∙ sym (c .first-bytes))
       (a .counted ∙ sym (c .counted)) (a .last-bytes ∙ sym (c .last-bytes)) in
@@ -121,6 +121,8 @@ module _ (s : List ℕ) (g : GoodIn s) (slot : ℕ) (o w : Outcome Moved (List �
         | no u ↦ a .rest .slots k l u ∙ sym (c .rest .slots k l u)
       ] in
       let bytes = kept-told s (o .bytes) (w .bytes) g _ (a .rest) (c .rest) (a .last-bytes) last slots in
+      let answer : o .answer ≡ w .answer =
+      a .answer ∙ (λ i. record { number = 0; slot = 0; packet = slotIn s slot; left = roomLeft (bytes i) (placeIn s slot) }) ∙ sym (c .answer) in
       λ i. record { answer = answer i; bytes = bytes i }
 
   pub step-same : Bytes (o .bytes) → Bytes (w .bytes) → (lead : Lead) → OneStep s slot lead o → OneStep s slot lead w → o ≡ w
@@ -143,7 +145,6 @@ module _ (s : List ℕ) (g : GoodIn s) (source destination : ℕ) (payload : Lis
   pub enters-same : Bytes (o .bytes) → Bytes (w .bytes) → Enters s source destination payload o → Enters s source destination payload w → o ≡ w
   enters-same b d a c =
       let one : a .to ≡ c .to = waiting-one s g source (a .to) (c .to) (a .waiting) (c .waiting) in
-      let answer : o .answer ≡ w .answer = a .answer ∙ (λ i. record { number = 0; slot = one i; serial = headIn s .taken }) ∙ sym (c .answer) in
       let rest : Kept s (w .bytes) (λ i. i ≡ a .to) = rw one (c .rest) in
       let long = g .long in
       let last = last-told (o .bytes) (w .bytes) b d (omega (arith, a .rest .long)) (omega (arith, c .rest .long)) 4 (omega arith) (a .first-bytes ∙ sym (c .first-bytes))
@@ -155,6 +156,8 @@ module _ (s : List ℕ) (g : GoodIn s) (source destination : ℕ) (payload : Lis
       let end : drop 12 (last16 (o .bytes)) ≡ drop 12 (last16 s) =
       sym (drop-drop 4 8 (last16 (o .bytes))) ∙ ap (drop 4) (a .last-bytes) ∙ drop-drop 4 8 (last16 s) in
       let bytes = kept-told s (o .bytes) (w .bytes) g _ (a .rest) rest end last slots in
+      let answer : o .answer ≡ w .answer =
+      a .answer ∙ (λ i. record { number = 0; slot = one i; serial = headIn s .taken; left = roomLeft (bytes i) (at source Waiting) }) ∙ sym (c .answer) in
       λ i. record { answer = answer i; bytes = bytes i }
 
 -- ---- a clear

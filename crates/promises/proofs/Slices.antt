@@ -39,7 +39,8 @@ use Rattle.table.proofs.CallLaws.{on-table-good}
 use Rattle.router.specs.declared.moving.Moved.{Moved}
 use Rattle.router.specs.Move.{barred, leadOf, moveDue, movedIn, movedSlice}
 use Rattle.router.proofs.MoveLaws.{due-granted, moved-number}
-use Rattle.router.proofs.Effects.{Carries, Hands, hop-carries, turn-carries, out-hands}
+use Rattle.router.proofs.Carrying.{Carries, hop-carries, turn-carries}
+use Rattle.router.proofs.Handing.{Hands, out-hands}
 use Rattle.calls.specs.Slices.{see}
 use Rattle.promises.proofs.Reading.{head-is, table-is, head-after, table-after}
 use Rattle.promises.proofs.Steps.{open-accepted}

@@ -2,22 +2,31 @@
 -- Assumes nothing.
 use Prim.Native.Nat.{ℕ, _+_, _-_, _*_, _<_, _≤_}
 use mathlib.Core.Path.{_≡_, refl, sym, ap, _∙_}
+use mathlib.Core.Bool.{true, _&&_}
 use mathlib.Core.List.{List, _++_}
 use native.Mathlib.Omega.{arith}
 use lib.ListN.{length, take, drop, length-append, take-append-drop}
 use lib.Seq.{drop-append-add}
+use Rattle.network.specs.declared.Place.{Place}
+use Rattle.network.specs.Net.{samePlace}
+use Rattle.network.specs.Search.{countWith}
+use Rattle.network.proofs.CountingLaws.{count-queue}
 use Rattle.slots.specs.Bytes.{put, bytes32}
-use Rattle.slots.specs.Slots.{slotAt}
+use Rattle.slots.specs.Slots.{slotAt, zeros}
 use Rattle.slots.proofs.Parts.{length-put, take-put, drop-put}
 use Rattle.slots.proofs.Numbers.{length-bytes32}
+use Rattle.board.specs.Layout.{layoutOf}
+use Rattle.board.proofs.BoardLaws.{layout-laws}
 use Rattle.trailer.specs.declared.Head.{Head}
 use Rattle.trailer.specs.declared.Headed.the-variants.{Good}
 use Rattle.trailer.specs.Trailer.{trailerOf, last16}
 use Rattle.trailer.proofs.TrailerLaws.{length-last16, trailer-good, trailer-table, length-table}
 use Rattle.trailer.proofs.CountLaws.{last-put}
-use Rattle.calls.specs.Slices.{headIn, tableIn, beforeIn, GoodIn, slotsIn, slotIn}
+use Rattle.table.specs.Queues.{emptyAt, emptiesAt}
+use Rattle.calls.specs.Slices.{headIn, boardIn, tableIn, beforeIn, GoodIn, layoutIn, netIn, slotsIn, slotIn}
+use Rattle.promises.specs.Conditions.{roomLeft}
 use Rattle.promises.specs.Demand2.{Kept}
-use Rattle.promises.proofs.Reading.{good-is, table-after, before-after}
+use Rattle.promises.proofs.Reading.{good-is, head-after, table-after, before-after}
 use Rattle.promises.proofs.Conditions.{sized}
 
 pub last-after : (p u : List ℕ) → 16 ≤ length u → last16 (p ++ u) ≡ last16 u
@@ -85,3 +94,11 @@ module _ (s : List ℕ) (g : GoodIn s) where
       before = before-after (beforeIn s) u e l;
       slots = λ i m n. ap (λ (w : List ℕ). slotAt w i) now ∙ f i m n;
     }
+
+    -- the empty slots counted place by place are those of the queue
+    pub left-after : h .board ≡ boardIn s → (p : Place) → netIn s .valid (p .node) ≡ true → roomLeft (beforeIn s ++ u) p ≡ emptiesAt (boardIn s) u p
+    unfolding emptiesAt
+    left-after kept p v =
+        let board : boardIn (beforeIn s ++ u) ≡ boardIn s = ap (λ (x : Head). x .board) (head-after (beforeIn s) u e) ∙ kept in
+        (λ i. countWith (λ j. samePlace (layoutOf (board i) .placeOf j) p && zeros (slotAt (now i) j)) 0 (layoutOf (board i) .size))
+        ∙ count-queue (netIn s) (layoutIn s) (layout-laws (boardIn s) (g .ranges)) p v (emptyAt u)

@@ -6,11 +6,11 @@ use mathlib.Core.List.{List, [], _∷_}
 use lib.Dec.{eqb}
 use lib.ListN.{take, replicate}
 use Rattle.network.specs.declared.Kind.{Kind}
-use Rattle.network.specs.declared.Kind.the-variants.{Waiting, A, B}
+use Rattle.network.specs.declared.Kind.the-variants.{A, B}
 use Rattle.network.specs.declared.Place.{Place}
 use Rattle.network.specs.declared.Lead.{Lead}
 use Rattle.network.specs.declared.Lead.the-variants.{Hop, Turn, Out, NotOffered}
-use Rattle.network.specs.Net.{Net, at, delivery}
+use Rattle.network.specs.Net.{Net, at, kindNumber, delivery}
 use Rattle.network.specs.Packet.{Item, offer}
 use Rattle.mesh.specs.Grid.{node, xOf, yOf}
 use Rattle.mesh.specs.Mesh.{mesh}
@@ -57,12 +57,6 @@ abbrev told : Outcome ℕ (List ℕ) → List ℕ
 told o =
     let u = o .bytes in
     cond (eqb (o .answer) 0) (0 ∷ boardIn u .depth ∷ slotsIn u ∷ headIn u .size ∷ []) (o .answer ∷ [])
-
--- the kinds by number: waiting, A, B
-abbrev kindNumber : Kind → ℕ
-kindNumber Waiting = 0
-kindNumber A = 1
-kindNumber B = 2
 
 -- a place: its node's number, x, y and kind
 abbrev placeNumbers : ℕ → Place → List ℕ

@@ -1,16 +1,18 @@
--- Document 01's words for the slots of a slice, as facts: empty, held, good, spoiled, an empty slot of a queue, the full check's first fault.
+-- Document 01's words for the slots of a slice, as facts: empty, held, good, spoiled, an empty slot of a queue, the full check's first fault; and how
+-- many slots of a queue are empty (document 02, order 1).
 -- Assumes nothing.
 use Prim.Native.Nat.{ℕ, _-_, _<_, _≤_}
 use mathlib.Core.Path.{_≡_}
 use mathlib.Core.Logic.{_≢_}
-use mathlib.Core.Bool.{true}
+use mathlib.Core.Bool.{true, _&&_}
 use mathlib.Core.List.{List}
 use Rattle.network.specs.declared.Place.{Place}
 use Rattle.network.specs.declared.Lead.{Lead}
 use Rattle.network.specs.declared.Lead.the-variants.{Hop, Turn, Out, NotOffered}
-use Rattle.network.specs.Net.{at}
+use Rattle.network.specs.Net.{at, samePlace}
 use Rattle.network.specs.Packet.{GoodItem}
-use Rattle.slots.specs.Slots.{emptySlot}
+use Rattle.network.specs.Search.{countWith}
+use Rattle.slots.specs.Slots.{emptySlot, zeros}
 use Rattle.board.specs.Board.{publishedOn}
 use Rattle.calls.specs.Slices.{headIn, boardIn, netIn, slotsIn, slotIn, placeIn, packetIn, heldIn}
 
@@ -49,6 +51,10 @@ HasEmpty s p = (j : ℕ) × EmptyOf s p j
 pub record LowestOf (s : List ℕ) (p : Place) (j : ℕ) : Type 0 where
   pub one : EmptyOf s p j
   pub least : (i : ℕ) → EmptyOf s p i → j ≤ i
+
+-- how many slots are empty in the queue at that place: the slots below S that are at that place and are 16 zeros
+abbrev pub roomLeft : List ℕ → Place → ℕ
+roomLeft s p = countWith (λ j. samePlace (placeIn s j) p && zeros (slotIn s j)) 0 (slotsIn s)
 
 -- a lead needs an empty slot in its target queue; a hop keeps the queue kind, a turn keeps the node, and out needs none
 abbrev pub Room : List ℕ → Place → Lead → Type 0

@@ -85,6 +85,13 @@ pub record Refuses {A B : Type 0} (number : A → ℕ) (Told : A → Type 0) (gr
   pub told : number (o .answer) ≢ 0 → Told (o .answer)
   pub unchanged : number (o .answer) ≢ 0 → o .bytes ≡ lent
 
+-- zeros beside the number
+abbrev pub NothingTaken : Taken → Type 0
+NothingTaken a = (a .slot ≡ 0) × (a .serial ≡ 0) × (a .left ≡ 0)
+
+abbrev pub NothingMoved : Moved → Type 0
+NothingMoved a = (a .slot ≡ 0) × (a .packet ≡ emptySlot) × (a .left ≡ 0)
+
 -- the place is named with 10, and else is zero
 abbrev pub Placed : List ℕ → ℕ → ℕ → Type 0
 Placed s number place = (number ≡ 10 → FaultAt s place) × (number ≢ 10 → place ≡ 0)
@@ -102,9 +109,9 @@ pub record Behind (R : Router) (p t : List ℕ) : Type 0 where
 pub record Demand1 (R : Router) : Type 0 where
   pub clear : (s : List ℕ) → Bytes s → (b : Board) → Refuses (λ (n : ℕ). n) (λ n. Unit {0}) (clearGrounds s b) s (R .clear s b)
   pub take-in : (s : List ℕ) → Bytes s → (source destination : ℕ) (payload : List ℕ)
-      → Refuses (λ (a : Taken). a .number) (λ a. (a .slot ≡ 0) × (a .serial ≡ 0)) (takeGrounds s source destination) s (R .take-in s source destination payload)
+      → Refuses (λ (a : Taken). a .number) NothingTaken (takeGrounds s source destination) s (R .take-in s source destination payload)
   pub make-move : (s : List ℕ) → Bytes s → (slot code : ℕ)
-      → Refuses (λ (a : Moved). a .number) (λ a. (a .slot ≡ 0) × (a .packet ≡ emptySlot)) (moveGrounds s slot code) s (R .make-move s slot code)
+      → Refuses (λ (a : Moved). a .number) NothingMoved (moveGrounds s slot code) s (R .make-move s slot code)
   pub read-payload : (s : List ℕ) → Bytes s → (slot : ℕ)
       → Refuses (λ (a : Reading). a .number) (λ a. a .bytes ≡ []) (readGrounds s slot) s (R .read-payload s slot)
   pub full-check : (s : List ℕ) → Bytes s

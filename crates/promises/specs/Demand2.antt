@@ -20,7 +20,7 @@ use Rattle.survey.specs.Copy.{withoutPayload}
 use Rattle.survey.specs.Secrecy.{Alike}
 use Rattle.calls.specs.Slices.{Bytes, headIn, GoodIn, beforeIn, slotsIn, slotIn, placeIn}
 use Rattle.calls.specs.Router.{Router}
-use Rattle.promises.specs.Conditions.{EmptyAt, HeldAt, GoodAt, IsCode, leadIn, LowestOf, Room}
+use Rattle.promises.specs.Conditions.{EmptyAt, HeldAt, GoodAt, IsCode, leadIn, LowestOf, roomLeft, Room}
 
 -- the slot holds a good packet, under a good trailer
 pub record GoodPacket (s : List ℕ) (slot : ℕ) : Type 0 where
@@ -40,19 +40,21 @@ pub record Kept (s u : List ℕ) (Touched : ℕ → Type 0) : Type 0 where
   pub before : beforeIn u ≡ beforeIn s
   pub slots : (i : ℕ) → i < slotsIn s → (Touched i → ⊥) → slotIn u i ≡ slotIn s i
 
--- the packet's 16 bytes, with so many hops more, in the lowest empty slot of the target queue, the old slot zeros, and nothing else
+-- the packet's 16 bytes, with so many hops more, in the lowest empty slot of the target queue, the old slot zeros, and nothing else; the answer tells
+-- how many slots of the target queue are left empty
 pub record Goes (s : List ℕ) (slot : ℕ) (target : Place) (more : ℕ) (o : Outcome Moved (List ℕ)) : Type 0 where
   pub to : ℕ
   pub lowest : LowestOf s target to
-  pub answer : o .answer ≡ record { number = 0; slot = to; packet = emptySlot }
+  pub answer : o .answer ≡ record { number = 0; slot = to; packet = emptySlot; left = roomLeft (o .bytes) target }
   pub come : slotIn (o .bytes) to ≡ hop (slotIn s slot) more
   pub gone : EmptyAt (o .bytes) slot
   pub rest : Kept s (o .bytes) (λ i. (i ≡ slot) ⊎ (i ≡ to))
   pub trailer : last16 (o .bytes) ≡ last16 s
 
--- the packet's 16 bytes in the answer, the old slot zeros, one more delivered, and nothing else
+-- the packet's 16 bytes in the answer, the old slot zeros, one more delivered, and nothing else; the answer tells how many slots are then empty in the
+-- queue that it left
 pub record Leaves (s : List ℕ) (slot : ℕ) (o : Outcome Moved (List ℕ)) : Type 0 where
-  pub answer : o .answer ≡ record { number = 0; slot = 0; packet = slotIn s slot }
+  pub answer : o .answer ≡ record { number = 0; slot = 0; packet = slotIn s slot; left = roomLeft (o .bytes) (placeIn s slot) }
   pub gone : EmptyAt (o .bytes) slot
   pub rest : Kept s (o .bytes) (λ i. i ≡ slot)
   pub counted : le32 (last16 (o .bytes)) 8 ≡ suc (le32 (last16 s) 8)

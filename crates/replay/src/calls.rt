@@ -26,6 +26,7 @@ pub fn take_in(c: &[u8], s: &mut [u8])
     saying::value(t.number);
     saying::value(t.slot);
     saying::value(t.serial);
+    saying::value(t.left);
     saying::end();
 }
 
@@ -38,6 +39,7 @@ pub fn make_move(c: &[u8], s: &mut [u8])
     saying::value(m.number);
     saying::value(m.slot);
     saying::bytes(&packet);
+    saying::value(m.left);
     saying::end();
 }
 

@@ -1,6 +1,6 @@
 -- What an accepted taking in leaves of a table, said once: its bytes, its trailer, its length, its slots, and the packets seen in their places.
 -- Assumes nothing.
-use Prim.Native.Nat.{ℕ, suc, _+_, _*_, _<_, _≤_, _^_}
+use Prim.Native.Nat.{ℕ, suc, _+_, _-_, _*_, _<_, _≤_, _^_}
 use mathlib.Core.Path.{_≡_, refl, sym, ap, _∙_}
 use mathlib.Core.Logic.{_≢_}
 use mathlib.Core.Bool.{true}
@@ -14,22 +14,23 @@ use Rattle.network.specs.Net.{at}
 use Rattle.network.specs.Packet.{Packet, Item, GoodItem}
 use Rattle.network.specs.View.{held, itemAt}
 use Rattle.network.specs.Table.{Entered}
-use Rattle.slots.specs.Slots.{slotAt, withSlot}
+use Rattle.slots.specs.Slots.{slotAt, withSlot, zeros}
 use Rattle.slots.proofs.SlotLaws.{length-withSlot, slotAt-same, slotAt-other}
 use Rattle.board.specs.declared.Board.{Board}
 use Rattle.board.specs.Board.{netOf}
 use Rattle.board.specs.Layout.{layoutOf, Sized}
-use Rattle.board.proofs.BoardLaws.{net-laws, slot-fits}
+use Rattle.board.proofs.BoardLaws.{net-laws, one-waiting, slot-fits}
 use Rattle.trailer.specs.declared.Head.{Head}
 use Rattle.trailer.specs.declared.Headed.the-variants.{Good}
 use Rattle.trailer.specs.Trailer.{trailerOf, withTaken}
 use Rattle.trailer.proofs.TrailerLaws.{trailer-good, table-sized, trailer-withSlot}
 use Rattle.trailer.proofs.CountLaws.{taking, trailer-withTaken, length-withTaken, slotAt-withTaken}
 use Rattle.table.specs.Packets.{packetOf, slotOf, viewOf}
+use Rattle.table.specs.Queues.{emptiesAt}
 use Rattle.table.specs.Calls.{outcome}
 use Rattle.table.proofs.PacketLaws.{mark-not-zero, slot-held, slot-empty}
-use Rattle.table.proofs.QueueLaws.{room-lowest, room-there}
-use Rattle.router.specs.TakeIn.{waitingRoom, newRecord, tookIn, takenIn}
+use Rattle.table.proofs.QueueLaws.{room-lowest, room-there, empties-room, empties-more}
+use Rattle.router.specs.TakeIn.{waitingRoom, waitingEmpties, newRecord, tookIn, takenIn}
 use Rattle.router.proofs.TakeLaws.{Welcome, takeDue, due-welcome, berth, berth-room, berth-within, taken-done, new-packet, length-newRecord}
 
 -- a packet as it is taken in: it waits at its source, with no hop made
@@ -62,8 +63,11 @@ pub record Takes (h : Head) (t : List ℕ) (source destination : ℕ) (payload :
   pub room : waitingRoom h t source ≡ At to
   pub inside : to < layoutOf (h .board) .size
   pub there : layoutOf (h .board) .placeOf to ≡ at source Waiting
-  pub is : takenIn h t source destination payload
-      ≡ outcome record { number = 0; slot = to; serial = h .taken } (withPacket h t to (newRecord source destination (h .taken) payload))
+  -- the answer tells how many slots of that queue are empty now
+  pub is : let u = withPacket h t to (newRecord source destination (h .taken) payload) in
+      takenIn h t source destination payload
+      ≡ outcome record { number = 0; slot = to; serial = h .taken; left = emptiesAt (h .board) u (at source Waiting) } u
+  pub none-left : emptiesAt (h .board) (withPacket h t to (newRecord source destination (h .taken) payload)) (at source Waiting) ≡ 0
   pub head : trailerOf (withPacket h t to (newRecord source destination (h .taken) payload)) ≡ Good (taking h (h .taken + 1))
   pub full : length (withPacket h t to (newRecord source destination (h .taken) payload)) ≡ h .size
   pub come : slotAt (withPacket h t to (newRecord source destination (h .taken) payload)) to ≡ newRecord source destination (h .taken) payload
@@ -116,6 +120,17 @@ module _ (h : Head) (t : List ℕ) (e : trailerOf t ≡ Good h) (full : length t
   packet : packetOf v ≡ newPacket source destination (h .taken) payload
   packet = new-packet source destination (h .taken) payload small l
 
+  -- one slot of the waiting queue is empty no more
+  one-used : waitingEmpties h t source ≡ suc (emptiesAt (h .board) (withPacket h t j v) (at source Waiting))
+  one-used =
+      empties-more (h .board) (sized .board) (at source Waiting) (w .source-on) (withPacket h t j v) t j inside
+      (room-there (h .board) t (at source Waiting) j room (sized .board) (w .source-on))
+      (ap zeros come ∙ mark-not-zero v (ap (λ (p : Packet). p .mark) packet)) (room-lowest (h .board) t (at source Waiting) j room .has)
+      (λ i l p u. rest i l u)
+
+  left-is : waitingEmpties h t source - 1 ≡ emptiesAt (h .board) (withPacket h t j v) (at source Waiting)
+  left-is = omega (arith, one-used)
+
   pub takes : Takes h t source destination payload
   unfolding tookIn
   takes =
@@ -127,7 +142,8 @@ module _ (h : Head) (t : List ℕ) (e : trailerOf t ≡ Good h) (full : length t
         room = room;
         inside = inside;
         there = room-there (h .board) t (at source Waiting) j room (sized .board) (w .source-on);
-        is = taken-done h t source destination payload z;
+        is = taken-done h t source destination payload z ∙ (λ i. outcome record { number = 0; slot = j; serial = h .taken; left = left-is i } (withPacket h t j v));
+        none-left = omega (arith, one-used, empties-room (h .board) t (at source Waiting), one-waiting (h .board));
         head = trailer-withTaken (withSlot t j v) (h .taken + 1) (trailer-withSlot t j v e full inside long) (omega arith) (omega (arith, w .more));
         full = length-withTaken (withSlot t j v) (h .taken + 1) (omega (arith, length-with, fits)) ∙ length-with ∙ full;
         come = come;

@@ -15,7 +15,7 @@ use Rattle.network.specs.declared.Lowest.{Lowest}
 use Rattle.network.specs.declared.Lowest.the-variants.{At, Nowhere}
 use Rattle.network.specs.Net.{at}
 use Rattle.network.specs.Search.{isAt, numberAt}
-use Rattle.network.proofs.Tests.{clash, cond-true, cond-false}
+use Rattle.network.proofs.Tests.{cond-true, cond-false}
 use Rattle.network.proofs.SearchLaws.{at-some}
 use Rattle.slots.specs.Bytes.{bytes32}
 use Rattle.slots.proofs.Numbers.{digits}
@@ -29,8 +29,8 @@ use Rattle.table.proofs.QueueLaws.{room-within}
 use Rattle.table.proofs.RefusalLaws.{passed, accepted-by, refused-by}
 use Rattle.table.proofs.CallLaws.{answered-done, answered-refused}
 use Rattle.router.specs.declared.verdict.Verdict.{Verdict}
-use Rattle.router.specs.TakeIn.{refusal, waitingRoom, takeRows, newRecord, tookIn, takenIn}
-use Rattle.router.specs.Verdicts.{refusedBy, into, takeVerdict}
+use Rattle.router.specs.TakeIn.{refusal, waitingRoom, waitingEmpties, takeRows, newRecord, tookIn, takenIn}
+use Rattle.router.specs.Verdicts.{refusedBy, into, intoQueue, takeVerdict}
 
 -- the packet is taken in
 pub record Welcome (h : Head) (t : List ℕ) (source destination : ℕ) : Type 0 where
@@ -83,36 +83,26 @@ module _ (h : Head) (t : List ℕ) (source destination : ℕ) where
 
   -- past the nodes and the serials, the room decides
   pub take-into : netOf (h .board) .valid source ≡ true → netOf (h .board) .valid destination ≡ true → h .taken ≢ 4294967295
-      → takeVerdict h t source destination ≡ into (waitingRoom h t source) 0
+      → takeVerdict h t source destination ≡ intoQueue (h .board) t (at source Waiting) 0
   unfolding takeVerdict
   take-into on to more = by (waitingRoom h t source) refl
     where
-      by : (r : Lowest) → waitingRoom h t source ≡ r → takeVerdict h t source destination ≡ into (waitingRoom h t source) 0
+      by : (r : Lowest) → waitingRoom h t source ≡ r → takeVerdict h t source destination ≡ intoQueue (h .board) t (at source Waiting) 0
       by (At k) e = rw (on, to, ne-eqb (h .taken) 4294967295 more, e)
       by Nowhere e = rw (on, to, ne-eqb (h .taken) 4294967295 more, e)
 
   module _ (v : Verdict) (e : v ≡ takeVerdict h t source destination) where
-    into-slot : (r : Lowest) → isAt r ≡ true → into r 0 .slot ≡ numberAt r
-    into-slot (At k) i = refl
-    into-slot Nowhere i = clash cc
+    -- where nothing is due, into the waiting slot
+    pub take-done : takeDue ≡ 0 → v ≡ into (At (numberAt (waitingRoom h t source))) (waitingEmpties h t source) 0
+    unfolding takeVerdict
+    take-done z =
+        e ∙ accepted-by _ _ z ∙ ap (λ (r : Lowest). into r (waitingEmpties h t source) 0) (at-some (waitingRoom h t source) (due-welcome z .room))
 
     pub take-number : v .number ≡ takeDue
-    unfolding takeVerdict
     take-number = elim (ℕ-discrete takeDue 0) [
-      | yes z ↦ ap (λ (x : Verdict). x .number) (e ∙ judged-done z) ∙ into-none (waitingRoom h t source) (due-welcome z .room) ∙ sym z
+      | yes z ↦ ap (λ (x : Verdict). x .number) (take-done z) ∙ sym z
       | no z ↦ ap (λ (x : Verdict). x .number) (e ∙ take-refuses refl z)
     ]
-      where
-        judged-done : takeDue ≡ 0 → takeVerdict h t source destination ≡ into (waitingRoom h t source) 0
-        judged-done z = accepted-by _ _ z
-
-        into-none : (r : Lowest) → isAt r ≡ true → into r 0 .number ≡ 0
-        into-none (At k) i = refl
-        into-none Nowhere i = clash cc
-
-    pub take-slot : takeDue ≡ 0 → v .slot ≡ numberAt (waitingRoom h t source)
-    unfolding takeVerdict
-    take-slot z = ap (λ (x : Verdict). x .slot) (e ∙ accepted-by _ _ z) ∙ into-slot (waitingRoom h t source) (due-welcome z .room)
 
 -- mark 1, the source, the destination, no hop made, the serial, and the payload, all eight bytes
 pub new-packet : (source destination serial : ℕ) (payload : List ℕ) → serial < 2 ^ 32 → length payload ≡ 8

@@ -1,6 +1,6 @@
 -- What the verdict on a move tells of the call: its number is the one that is due, and where that is 0, where the packet goes.
 -- Assumes nothing.
-use Prim.Native.Nat.{ℕ, _+_, _<_, _≤_}
+use Prim.Native.Nat.{ℕ, _+_, _-_, _<_, _≤_}
 use mathlib.Core.Path.{_≡_, refl, sym, ap, _∙_}
 use mathlib.Core.Logic.{_≢_}
 use mathlib.Core.Bool.{true, false, cond, not}
@@ -15,7 +15,7 @@ use Rattle.network.specs.declared.Place.{Place}
 use Rattle.network.specs.declared.Lead.{Lead}
 use Rattle.network.specs.declared.Lead.the-variants.{Hop, Turn, Out, NotOffered}
 use Rattle.network.specs.Net.{at}
-use Rattle.network.specs.Search.{isAt, numberAt}
+use Rattle.network.specs.Search.{isAt}
 use Rattle.network.proofs.Tests.{clash, cond-true, cond-false}
 use Rattle.slots.specs.Slots.{slotAt, emptySlot}
 use Rattle.board.specs.declared.Board.{Board}
@@ -23,7 +23,7 @@ use Rattle.board.specs.Board.{GoodBoard, netOf}
 use Rattle.board.specs.Layout.{layoutOf}
 use Rattle.trailer.specs.declared.Head.{Head}
 use Rattle.table.specs.Refusals.{firstDue, no-room}
-use Rattle.table.specs.Queues.{emptyAt, roomAt}
+use Rattle.table.specs.Queues.{emptyAt, roomAt, emptiesAt}
 use Rattle.table.specs.Carriage.{carried}
 use Rattle.table.specs.Calls.{Outcome, outcome}
 use Rattle.table.proofs.RefusalLaws.{due-first, accepted-by, refused-by}
@@ -36,12 +36,12 @@ use Rattle.router.specs.Verdicts.{refusedBy, into, ahead, slotDue, moveV
 use Rattle.router.proofs.NamedLaws.{Named, targets}
 use Rattle.router.proofs.MoveLaws.{Granted, onward, past-slot, due-granted, moved-refused, moved-granted}
 
-module _ (hops : ℕ) where
-  into-number : (r : Lowest) → into r hops .number ≡ cond (not (isAt r)) no-room 0
+module _ (empty hops : ℕ) where
+  into-number : (r : Lowest) → into r empty hops .number ≡ cond (not (isAt r)) no-room 0
   into-number (At k) = refl
   into-number Nowhere = refl
 
-  into-refused : (r : Lowest) → into r hops .number ≢ 0 → into r hops ≡ refusedBy (into r hops .number)
+  into-refused : (r : Lowest) → into r empty hops .number ≢ 0 → into r empty hops ≡ refusedBy (into r empty hops .number)
   into-refused (At k) u = absurd (u refl)
   into-refused Nowhere u = refl
 
@@ -49,15 +49,15 @@ module _ (hops : ℕ) where
 module _ (b : Board) (t : List ℕ) (here : Place) where
   ahead-number : (lead : Lead) → ahead b t here lead .number ≡ firstDue (leadRows b t here lead)
   unfolding ahead
-  ahead-number (Hop n) = into-number 1 (roomAt b t (at n (here .kind)))
-  ahead-number (Turn k) = into-number 0 (roomAt b t (at (here .node) k))
+  ahead-number (Hop n) = into-number (emptiesAt b t (at n (here .kind))) 1 (roomAt b t (at n (here .kind)))
+  ahead-number (Turn k) = into-number (emptiesAt b t (at (here .node) k)) 0 (roomAt b t (at (here .node) k))
   ahead-number Out = refl
   ahead-number NotOffered = refl
 
   ahead-refused : (lead : Lead) → ahead b t here lead .number ≢ 0 → ahead b t here lead ≡ refusedBy (ahead b t here lead .number)
   unfolding ahead
-  ahead-refused (Hop n) u = into-refused 1 (roomAt b t (at n (here .kind))) u
-  ahead-refused (Turn k) u = into-refused 0 (roomAt b t (at (here .node) k)) u
+  ahead-refused (Hop n) u = into-refused (emptiesAt b t (at n (here .kind))) 1 (roomAt b t (at n (here .kind))) u
+  ahead-refused (Turn k) u = into-refused (emptiesAt b t (at (here .node) k)) 0 (roomAt b t (at (here .node) k)) u
   ahead-refused Out u = absurd (u refl)
   ahead-refused NotOffered u = refl
 
@@ -102,14 +102,18 @@ module _ (h : Head) (t : List ℕ) (k code : ℕ) where
 -- ---- what the call does by its verdict
 
 -- the packet leaves, or goes to the verdict's slot with its hops
+abbrev pub wentBy : Head → List ℕ → ℕ → Verdict → Outcome Moved (List ℕ)
+wentBy h t k v = outcome record { number = 0; slot = v .slot; packet = emptySlot; left = v .left } (carried (h .board) t k (v .slot) (v .hops))
+
 abbrev doneBy : Head → List ℕ → ℕ → Verdict → Outcome Moved (List ℕ)
-doneBy h t k v = cond (v .leaves) (handedOut h t k) (outcome record { number = 0; slot = v .slot; packet = emptySlot } (carried (h .board) t k (v .slot) (v .hops)))
+doneBy h t k v = cond (v .leaves) (handedOut h t k) (wentBy h t k v)
 
 module _ (h : Head) (t : List ℕ) (k : ℕ) where
-  gone-by : (target : Place) (more : ℕ) (r : Lowest) → roomAt (h .board) t target ≡ r → isAt r ≡ true → gone h t k target more ≡ doneBy h t k (into r more)
+  gone-by : (target : Place) (more : ℕ) (r : Lowest) → roomAt (h .board) t target ≡ r → isAt r ≡ true
+      → gone h t k target more ≡ doneBy h t k (into r (emptiesAt (h .board) t target) more)
   unfolding gone
   gone-by target more (At j) e i =
-      ap (λ (r : Lowest). outcome record { number = 0; slot = numberAt r; packet = emptySlot } (carried (h .board) t k (numberAt r) more)) e
+      rw e
   gone-by target more Nowhere e i = clash cc
 
   led-by : (here : Place) (lead : Lead) → barred lead ≡ false → blocked (h .board) t here lead ≡ false
@@ -122,27 +126,27 @@ module _ (h : Head) (t : List ℕ) (k : ℕ) where
 
 -- the slot that the packet goes to: it lies in the table and is empty; and at most one hop more
 module _ (b : Board) (t : List ℕ) (g : GoodBoard b) (here : Place) where
-  into-room : (target : Place) → netOf b .valid (target .node) ≡ true → (more : ℕ) (r : Lowest) → roomAt b t target ≡ r → isAt r ≡ true
-      → (into r more .slot < layoutOf b .size) × (emptyAt t (into r more .slot) ≡ true)
-  into-room target on more (At j) e i = (room-within b t target j e g on, room-lowest b t target j e .has)
-  into-room target on more Nowhere e i = clash cc
+  into-room : (target : Place) → netOf b .valid (target .node) ≡ true → (empty more : ℕ) (r : Lowest) → roomAt b t target ≡ r → isAt r ≡ true
+      → (into r empty more .slot < layoutOf b .size) × (emptyAt t (into r empty more .slot) ≡ true)
+  into-room target on empty more (At j) e i = (room-within b t target j e g on, room-lowest b t target j e .has)
+  into-room target on empty more Nowhere e i = clash cc
 
   ahead-room : (lead : Lead) → Targets (netOf b) here lead → barred lead ≡ false → blocked b t here lead ≡ false → ahead b t here lead .leaves ≡ false
       → (ahead b t here lead .slot < layoutOf b .size) × (emptyAt t (ahead b t here lead .slot) ≡ true)
   unfolding ahead
-  ahead-room (Hop n) v o f l = into-room (at n (here .kind)) v 1 _ refl (not-false _ f)
-  ahead-room (Turn k) v o f l = into-room (at (here .node) k) v 0 _ refl (not-false _ f)
+  ahead-room (Hop n) v o f l = into-room (at n (here .kind)) v _ 1 _ refl (not-false _ f)
+  ahead-room (Turn k) v o f l = into-room (at (here .node) k) v _ 0 _ refl (not-false _ f)
   ahead-room Out v o f l = clash cc
   ahead-room NotOffered v o f l = clash cc
 
-into-hops : (r : Lowest) (more : ℕ) → more ≤ 1 → into r more .hops ≤ 1
-into-hops (At k) more l = l
-into-hops Nowhere more l = omega arith
+into-hops : (r : Lowest) (empty more : ℕ) → more ≤ 1 → into r empty more .hops ≤ 1
+into-hops (At k) empty more l = l
+into-hops Nowhere empty more l = omega arith
 
 ahead-hops : (b : Board) (t : List ℕ) (here : Place) (lead : Lead) → ahead b t here lead .hops ≤ 1
 unfolding ahead
-ahead-hops b t here (Hop n) = into-hops (roomAt b t (at n (here .kind))) 1 (omega arith)
-ahead-hops b t here (Turn k) = into-hops (roomAt b t (at (here .node) k)) 0 (omega arith)
+ahead-hops b t here (Hop n) = into-hops (roomAt b t (at n (here .kind))) (emptiesAt b t (at n (here .kind))) 1 (omega arith)
+ahead-hops b t here (Turn k) = into-hops (roomAt b t (at (here .node) k)) (emptiesAt b t (at (here .node) k)) 0 (omega arith)
 ahead-hops b t here Out = omega arith
 ahead-hops b t here NotOffered = omega arith
 
@@ -171,7 +175,7 @@ module _ (h : Head) (t : List ℕ) (k code : ℕ) (v : Verdict) (e : v ≡ moveV
     verdict-out l = verdict-done ∙ cond-true _ _ l
 
     pub verdict-on : v .leaves ≡ false
-        → movedIn h t k code ≡ outcome record { number = 0; slot = v .slot; packet = emptySlot } (carried (h .board) t k (v .slot) (v .hops))
+        → movedIn h t k code ≡ wentBy h t k v
     verdict-on l = verdict-done ∙ cond-false _ _ l
 
     module _ (g : GoodBoard (h .board)) where

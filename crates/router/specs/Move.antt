@@ -1,7 +1,7 @@
 -- Move (slot, code): 1, 2, 3, 4, 5, 6. The code is the chooser's proposal and is trusted in nothing. An accepted move puts the packet into
 -- the lowest empty slot of its target queue and leaves the old slot; delivery hands out its 16 bytes and adds one to delivered.
 -- Assumes nothing.
-use Prim.Native.Nat.{ℕ, _+_}
+use Prim.Native.Nat.{ℕ, _+_, _-_}
 use mathlib.Core.Bool.{Bool, true, false, not}
 use mathlib.Core.List.{List, [], _∷_, _++_}
 use lib.Dec.{leb}
@@ -19,13 +19,13 @@ use Rattle.trailer.specs.declared.Head.{Head}
 use Rattle.trailer.specs.Trailer.{withDelivered}
 use Rattle.table.specs.Refusals.{Row, row, firstDue, out-of-range, slot-empty, slot-spoiled, not-offered, no-room}
 use Rattle.table.specs.Packets.{itemIn, goodAt}
-use Rattle.table.specs.Queues.{emptyAt, roomAt}
+use Rattle.table.specs.Queues.{emptyAt, roomAt, emptiesAt}
 use Rattle.table.specs.Carriage.{vacated, carried}
 use Rattle.table.specs.Calls.{Outcome, outcome, answered, onTable}
 use Rattle.router.specs.declared.moving.Moved.{Moved}
 
 abbrev pub refusal : ℕ → Moved
-refusal number = record { number = number; slot = 0; packet = emptySlot }
+refusal number = record { number = number; slot = 0; packet = emptySlot; left = 0 }
 
 -- refusals 2, 3 and 4 of a named slot
 abbrev pub slotRows : Head → List ℕ → ℕ → List Row
@@ -67,14 +67,18 @@ moveRows h t k code =
 unfoldable pub moveDue : Head → List ℕ → ℕ → ℕ → ℕ
 moveDue h t k code = firstDue (moveRows h t k code)
 
--- what an accepted move does: the packet goes to a queue, with no hop more or one, or out
+-- what an accepted move does: the packet goes to a queue, with no hop more or one, where it uses one of the empty slots; or out, and its slot is
+-- one more empty one of its queue
 unfoldable pub gone : Head → List ℕ → ℕ → Place → ℕ → Outcome Moved (List ℕ)
 gone h t k target more =
     let to = numberAt (roomAt (h .board) t target) in
-    outcome record { number = 0; slot = to; packet = emptySlot } (carried (h .board) t k to more)
+    outcome record { number = 0; slot = to; packet = emptySlot; left = emptiesAt (h .board) t target - 1 } (carried (h .board) t k to more)
 
 unfoldable pub handedOut : Head → List ℕ → ℕ → Outcome Moved (List ℕ)
-handedOut h t k = outcome record { number = 0; slot = 0; packet = slotAt t k } (withDelivered (vacated (h .board) t k) (h .delivered + 1))
+handedOut h t k =
+    let here = layoutOf (h .board) .placeOf k in
+    outcome record { number = 0; slot = 0; packet = slotAt t k; left = emptiesAt (h .board) t here + 1 }
+    (withDelivered (vacated (h .board) t k) (h .delivered + 1))
 
 abbrev pub ledOn : Head → List ℕ → ℕ → Place → Lead → Outcome Moved (List ℕ)
 ledOn h t k here (Hop n) = gone h t k (at n (here .kind)) 1

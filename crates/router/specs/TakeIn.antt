@@ -1,7 +1,7 @@
 -- Take in (source, destination, payload): 1, 2, 7, 6. The waiting slot used is the source's. The serial is the old taken count; taken
 -- rises by one; hops 0.
 -- Assumes nothing.
-use Prim.Native.Nat.{ℕ, _+_}
+use Prim.Native.Nat.{ℕ, _+_, _-_}
 use mathlib.Core.Bool.{not}
 use mathlib.Core.List.{List, [], _∷_, _++_}
 use lib.Dec.{eqb}
@@ -15,16 +15,20 @@ use Rattle.board.specs.Board.{netOf}
 use Rattle.trailer.specs.declared.Head.{Head}
 use Rattle.trailer.specs.Trailer.{withTaken}
 use Rattle.table.specs.Refusals.{Row, row, out-of-range, all-taken, no-room}
-use Rattle.table.specs.Queues.{roomAt}
+use Rattle.table.specs.Queues.{roomAt, emptiesAt}
 use Rattle.table.specs.Calls.{Outcome, outcome, answered, onTable}
 use Rattle.router.specs.declared.taking.Taken.{Taken}
 
 abbrev pub refusal : ℕ → Taken
-refusal number = record { number = number; slot = 0; serial = 0 }
+refusal number = record { number = number; slot = 0; serial = 0; left = 0 }
 
 -- the source's waiting slot, where it is empty
 abbrev pub waitingRoom : Head → List ℕ → ℕ → Lowest
 waitingRoom h t source = roomAt (h .board) t (at source Waiting)
+
+-- how many slots of that queue are empty
+abbrev pub waitingEmpties : Head → List ℕ → ℕ → ℕ
+waitingEmpties h t source = emptiesAt (h .board) t (at source Waiting)
 
 abbrev pub takeRows : Head → List ℕ → ℕ → ℕ → List Row
 takeRows h t source destination =
@@ -41,7 +45,7 @@ newRecord source destination serial payload = 1 ∷ source ∷ destination ∷ 0
 -- what an accepted taking in does, into a slot
 unfoldable pub tookIn : Head → List ℕ → ℕ → ℕ → List ℕ → ℕ → Outcome Taken (List ℕ)
 tookIn h t source destination payload slot =
-    outcome record { number = 0; slot = slot; serial = h .taken }
+    outcome record { number = 0; slot = slot; serial = h .taken; left = waitingEmpties h t source - 1 }
     (withTaken (withSlot t slot (newRecord source destination (h .taken) payload)) (h .taken + 1))
 
 unfoldable pub takenIn : Head → List ℕ → ℕ → ℕ → List ℕ → Outcome Taken (List ℕ)

@@ -1,10 +1,11 @@
 -- What the functions that judge a call compute, before it writes. No call is defined by it: a reader may pass over this file.
 -- Assumes nothing.
-use Prim.Native.Nat.{ℕ}
+use Prim.Native.Nat.{ℕ, _-_}
 use mathlib.Core.Path.{_≡_}
 use mathlib.Core.Bool.{true, false, cond}
 use mathlib.Core.List.{List}
 use lib.Dec.{eqb}
+use Rattle.network.specs.declared.Kind.the-variants.{Waiting}
 use Rattle.network.specs.declared.Lowest.{Lowest}
 use Rattle.network.specs.declared.Lowest.the-variants.{At, Nowhere}
 use Rattle.network.specs.declared.Place.{Place}
@@ -15,26 +16,29 @@ use Rattle.board.specs.declared.Board.{Board}
 use Rattle.board.specs.Layout.{layoutOf}
 use Rattle.trailer.specs.declared.Head.{Head}
 use Rattle.table.specs.Refusals.{Row, firstDue, not-offered, no-room}
-use Rattle.table.specs.Queues.{roomAt}
+use Rattle.table.specs.Queues.{roomAt, emptiesAt}
 use Rattle.router.specs.declared.verdict.Verdict.{Verdict}
-use Rattle.router.specs.TakeIn.{takeRows, waitingRoom}
+use Rattle.router.specs.TakeIn.{takeRows}
 use Rattle.router.specs.Move.{slotRows, moveRows, leadOf}
 
 abbrev pub refusedBy : ℕ → Verdict
-refusedBy number = record { number = number; leaves = false; slot = 0; hops = 0 }
+refusedBy number = record { number = number; leaves = false; slot = 0; hops = 0; left = 0 }
 
--- a packet goes into the room found, with so many hops more
-abbrev pub into : Lowest → ℕ → Verdict
-into (At slot) hops = record { number = 0; leaves = false; slot = slot; hops = hops }
-into Nowhere hops = refusedBy no-room
+-- a packet goes into the lowest of so many empty slots, with so many hops more
+abbrev pub into : Lowest → ℕ → ℕ → Verdict
+into (At slot) empty hops = record { number = 0; leaves = false; slot = slot; hops = hops; left = empty - 1 }
+into Nowhere empty hops = refusedBy no-room
+
+abbrev pub intoQueue : Board → List ℕ → Place → ℕ → Verdict
+intoQueue b t p hops = into (roomAt b t p) (emptiesAt b t p) hops
 
 abbrev pub out : Verdict
-out = record { number = 0; leaves = true; slot = 0; hops = 0 }
+out = record { number = 0; leaves = true; slot = 0; hops = 0; left = 0 }
 
 -- what the rule's answer comes to, in the table as it is
 unfoldable pub ahead : Board → List ℕ → Place → Lead → Verdict
-ahead b t here (Hop n) = into (roomAt b t (at n (here .kind))) 1
-ahead b t here (Turn k) = into (roomAt b t (at (here .node) k)) 0
+ahead b t here (Hop n) = intoQueue b t (at n (here .kind)) 1
+ahead b t here (Turn k) = intoQueue b t (at (here .node) k) 0
 ahead b t here Out = out
 ahead b t here NotOffered = refusedBy not-offered
 
@@ -48,7 +52,7 @@ unfoldable pub moveVerdict : Head → List ℕ → ℕ → ℕ → Verdict
 moveVerdict h t k code = judged (moveRows h t k code) (ahead (h .board) t (layoutOf (h .board) .placeOf k) (leadOf (h .board) t k code))
 
 unfoldable pub takeVerdict : Head → List ℕ → ℕ → ℕ → Verdict
-takeVerdict h t source destination = judged (takeRows h t source destination) (into (waitingRoom h t source) 0)
+takeVerdict h t source destination = judged (takeRows h t source destination) (intoQueue (h .board) t (at source Waiting) 0)
 
 -- an offered hop goes to a node, and a turn stays at one
 abbrev pub Targets : Net → Place → Lead → Type 0

@@ -17,6 +17,7 @@ pub struct Moved {
     pub number: u32,
     pub slot: u32,
     pub packet: [u8; 16],
+    pub left: u32,
 }
 
 fn refused(number: u32) -> Moved
@@ -26,6 +27,7 @@ fn refused(number: u32) -> Moved
         number,
         slot: 0,
         packet: [0u8; 16],
+        left: 0,
     }
 }
 
@@ -51,6 +53,7 @@ fn go_ahead(t: &[u8], b: Board, here: Place, lead: Lead) -> Verdict
             leaves: true,
             slot: 0,
             hops: 0,
+            left: 0,
         },
         Lead::NotOffered => crate::verdict::refuse(table::refusals::NOT_OFFERED),
     }
@@ -84,6 +87,9 @@ fn hand_out(t: &mut [u8], h: Head, slot: usize) -> Moved
     ensures { λ r. ⌜ outcome r (now (t .exit)) ≡ handedOut h (now (t .entry)) slot ⌝ }
 {
     let b = h.board;
+    let here = board::layout::place_of(b, slot);
+    let room = table::queues::room_at(t, b, here);
+    let left = room.empty + 1;
     let packet = slots::read_slot(t, slot);
     table::carriage::leave(t, b, slot);
     trailer::put_delivered(t, h.delivered + 1);
@@ -91,6 +97,7 @@ fn hand_out(t: &mut [u8], h: Head, slot: usize) -> Moved
         number: 0,
         slot: 0,
         packet,
+        left,
     }
 }
 
@@ -103,6 +110,7 @@ fn move_in_table(t: &mut [u8], h: Head, slot: u32, code: u32) -> Moved
     let number = v.number;
     let to = v.slot;
     let hops = v.hops;
+    let left = v.left;
     if number != 0 {
         return refused(number);
     }
@@ -114,10 +122,12 @@ fn move_in_table(t: &mut [u8], h: Head, slot: u32, code: u32) -> Moved
         number: 0,
         slot: to as u32,
         packet: [0u8; 16],
+        left,
     }
 }
 
-// Makes the proposed move of the packet in a slot; a delivery hands out the packet's 16 bytes.
+// Makes the proposed move of the packet in a slot; a delivery hands out the packet's 16 bytes. `left` slots are then empty in the queue that the
+// packet went into, or, at a delivery, in the one that it left.
 // Refusals: 1 trailer not good; 2 no such slot or code; 3 the slot is empty; 4 it is spoiled; 5 the rule doesn't offer the move; 6 the target
 // queue has no empty slot.
 pub fn make_move(s: &mut [u8], slot: u32, code: u32) -> Moved

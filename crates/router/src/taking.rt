@@ -1,8 +1,8 @@
 // Take in: a packet goes into the waiting slot of its source.
 use crate::verdict::Verdict;
 use network::Kind;
-use network::Lowest;
 use network::Place;
+use table::queues::QueueRoom;
 use trailer::Head;
 use trailer::Headed;
 ghost use mathlib.Core.Path.{_≡_};
@@ -10,13 +10,14 @@ ghost use mathlib.Core.Bool.{true};
 ghost use Rattle.board.specs.Board.{netOf};
 ghost use Rattle.board.specs.Layout.{Sized};
 ghost use Rattle.table.specs.Calls.{outcome};
-ghost use Rattle.router.specs.TakeIn.{refusal, waitingRoom, newRecord, takenIn, takenSlice};
+ghost use Rattle.router.specs.TakeIn.{refusal, waitingRoom, waitingEmpties, newRecord, takenIn, takenSlice};
 ghost use Rattle.router.specs.Verdicts.{takeVerdict};
 
 pub struct Taken {
     pub number: u32,
     pub slot: u32,
     pub serial: u32,
+    pub left: u32,
 }
 
 fn refused(number: u32) -> Taken
@@ -26,13 +27,15 @@ fn refused(number: u32) -> Taken
         number,
         slot: 0,
         serial: 0,
+        left: 0,
     }
 }
 
-fn waiting_room(t: &[u8], h: Head, source: u8) -> Lowest
+fn waiting_room(t: &[u8], h: Head, source: u8) -> QueueRoom
     requires { ⌜ Sized (h .board) (now t) ⌝ }
     requires { ⌜ netOf (h .board) .valid source ≡ true ⌝ }
-    ensures { λ r. ⌜ r ≡ waitingRoom h (now (t .entry)) source ⌝ }
+    ensures { λ r. ⌜ r .lowest ≡ waitingRoom h (now (t .entry)) source ⌝ }
+    ensures { λ r. ⌜ r .empty ≡ waitingEmpties h (now (t .entry)) source ⌝ }
 {
     let b = h.board;
     table::queues::room_at(
@@ -99,6 +102,7 @@ fn take_in_table(t: &mut [u8], h: Head, source: u8, destination: u8, payload: [u
     let v = judge_taking(t, h, source, destination);
     let number = v.number;
     let slot = v.slot;
+    let left = v.left;
     if number != 0 {
         return refused(number);
     }
@@ -111,10 +115,11 @@ fn take_in_table(t: &mut [u8], h: Head, source: u8, destination: u8, payload: [u
         number: 0,
         slot: slot as u32,
         serial,
+        left,
     }
 }
 
-// Takes a packet in at its source; its serial is the count of packets taken in before.
+// Takes a packet in at its source; its serial is the count of packets taken in before. `left` slots of the queue are then empty: none.
 // Refusals: 1 trailer not good; 2 source or destination off the board; 7 taken is 4,294,967,295; 6 the waiting slot is held.
 pub fn take_in(s: &mut [u8], source: u8, destination: u8, payload: [u8; 8]) -> Taken
     ensures { λ r. ⌜ outcome r (now (s .exit)) ≡ takenSlice (now (s .entry)) source destination payload ⌝ }

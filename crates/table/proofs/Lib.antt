@@ -3,3 +3,4 @@ pub mod CallLaws
 pub mod PacketLaws
 pub mod QueueLaws
 pub mod CarriageLaws
+pub mod RoomLaws

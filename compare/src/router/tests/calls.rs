@@ -23,7 +23,8 @@ fn taking_in_writes_slot_and_trailer() {
     board.set_counts(0x0102_0304, 0x0102_0304);
     let taken = take_in(&mut board.slice, 0x10, 0x01, *b"abcdefgh");
     let serial = 0x0102_0304;
-    assert_eq!(taken, Ok(TakenIn { slot: 6, serial }));
+    let (slot, left) = (6, 0);
+    assert_eq!(taken, Ok(TakenIn { slot, serial, left }));
     assert_eq!(board.slot_mut(6), b"\x01\x10\x01\0\x04\x03\x02\x01abcdefgh");
     let trailer = Trailer::decode(&board.slice).unwrap();
     assert_eq!((trailer.taken, trailer.delivered), (serial + 1, serial));
@@ -36,7 +37,7 @@ fn the_lowest_empty_slot_of_the_queue_is_used() {
     board.put(8, packet(at(1, 0), at(1, 0), at(1, 0), 1));
     board.put(10, packet(at(1, 0), at(1, 0), at(1, 0), 2));
     board.set_counts(3, 0);
-    assert_eq!(board.step(slot, 2), Ok(Moved::To(9)));
+    assert_eq!(board.step(slot, 2), Ok(Moved::To { slot: 9, left: 0 }));
 }
 
 #[test]
@@ -57,7 +58,7 @@ fn delivery_from_full_queues_needs_no_room() {
     }
     board.set_counts(3, 0);
     assert_eq!(find(&board.slice), Ok(Found { slot: 1, code: 7 }));
-    assert!(matches!(board.step(1, 7), Ok(Moved::Delivered(_))));
+    assert!(matches!(board.step(1, 7), Ok(Moved::Delivered { .. })));
     assert_eq!(board.refused(|slice| make_move(slice, 0, 1)), 6);
 }
 

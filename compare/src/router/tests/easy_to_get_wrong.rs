@@ -9,7 +9,7 @@ fn one_no_fall_in_a_without_a_rise_left() {
         let mut board = Board::new(3, 3, 1);
         let slot = board.put_alone(place(1, 2, Kind::A), at(1, 2), destination);
         assert_eq!(board.refused(|slice| make_move(slice, slot, 5)), 5);
-        let Ok(Moved::To(changed)) = board.step(slot, 6) else {
+        let Ok(Moved::To { slot: changed, .. }) = board.step(slot, 6) else {
             panic!("no change of phase");
         };
         assert!(board.step(changed as u32, 5).is_ok());
@@ -37,14 +37,18 @@ fn three_a_spoiled_slot_is_never_empty() {
     };
     both.slot_mut(queue.start + 1)[3] = 1;
     assert_eq!(both.refused(|slice| make_move(slice, slot, 2)), 6);
-    assert_eq!(board.step(slot, 2), Ok(Moved::To(queue.start + 1)));
+    let slot_and_left = Moved::To {
+        slot: queue.start + 1,
+        left: 0,
+    };
+    assert_eq!(board.step(slot, 2), Ok(slot_and_left));
 }
 
 #[test]
 fn four_hops_count_from_the_source() {
     let mut board = Board::new(4, 1, 1);
     let slot = board.put_alone(place(1, 0, Kind::A), at(0, 0), at(3, 0));
-    let Ok(Moved::To(next)) = board.step(slot, 2) else {
+    let Ok(Moved::To { slot: next, .. }) = board.step(slot, 2) else {
         panic!("no hop");
     };
     assert_eq!(board.slot_mut(next)[3], 2);

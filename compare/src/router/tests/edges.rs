@@ -67,8 +67,8 @@ fn walk(board: &mut Board, source: u8, destination: u8, codes: &[u32]) -> u8 {
     for code in codes {
         assert_eq!(full_check(&board.slice), Ok(()));
         match board.step(slot as u32, *code).unwrap() {
-            Moved::To(next) => slot = next,
-            Moved::Delivered(record) => {
+            Moved::To { slot: next, .. } => slot = next,
+            Moved::Delivered { record, .. } => {
                 assert_eq!(record[..3], [1, source, destination]);
                 assert_eq!(record[8..], *b"12345678");
                 return record[3];
@@ -92,10 +92,10 @@ fn both_named_walks_deliver_after_four_hops() {
 fn a_packet_to_its_own_node_enters_b() {
     let mut board = Board::new(3, 3, 1);
     take_in(&mut board.slice, 0, 0, [0; 8]).unwrap();
-    assert_eq!(board.step(0, 1), Ok(Moved::To(2)));
+    assert_eq!(board.step(0, 1), Ok(Moved::To { slot: 2, left: 0 }));
     let mut record = [0; 16];
     record[0] = 1;
-    assert_eq!(board.step(2, 7), Ok(Moved::Delivered(record)));
+    assert_eq!(board.step(2, 7), Ok(Moved::Delivered { record, left: 1 }));
 }
 
 #[test]
@@ -108,7 +108,7 @@ fn a_held_target_slot_answers_6() {
     assert_eq!(board.refused(|slice| make_move(slice, 1, 2)), 6);
     board.slot_mut(4).fill(0);
     board.set_counts(1, 0);
-    assert_eq!(board.step(1, 2), Ok(Moved::To(4)));
+    assert_eq!(board.step(1, 2), Ok(Moved::To { slot: 4, left: 0 }));
 }
 
 #[test]

@@ -6,5 +6,6 @@ mod checking;
 mod easy_to_get_wrong;
 mod edges;
 mod goodness;
+mod left;
 mod refusals;
 mod rule_rows;

@@ -1,6 +1,7 @@
 -- `router::moving::go_ahead` meets its contract: each arm by the rule's answer.
 -- Assumes nothing.
 use borrow.Author.Needs.{needs}
+use Rattle.table.proofs.QueueLaws.{room-counted}
 use Rattle.router.specs.Verdicts.{ahead}
 use Rattle.router.proofs.moving.go_ahead.Statement.{statement}
 use Rattle.router.proofs.moving.go_ahead.Tie as tie
@@ -14,7 +15,7 @@ room-at-requires c κs =
     (s .pre .0, rw (c .before .lead .given .1) at (s .pre .1))
 
 go-into-requires : tie.Need-go-into-requires
-go-into-requires c κs = search needs
+go-into-requires c κs = rw (c .room-at .ensures .0, c .room-at .ensures .1) (room-counted _ _ _)
 
 enum-known-lead-2 : tie.Need-enum-known-lead-2
 enum-known-lead-2 c = search needs
@@ -25,7 +26,7 @@ room-at-requires-2 c κs =
     (s .pre .0, rw (c .before .lead2 .given .1) at (s .pre .1))
 
 go-into-requires-2 : tie.Need-go-into-requires-2
-go-into-requires-2 c κs = search needs
+go-into-requires-2 c κs = rw (c .room-at2 .ensures .0, c .room-at2 .ensures .1) (room-counted _ _ _)
 
 enum-told : tie.Need-enum-told
 enum-told c = search needs
@@ -38,11 +39,13 @@ refuse-requires c κs = search needs
 
 returns : tie.Need-returns
 unfolding ahead
-returns c = rw (c .before .before .before .lead .given .1, ← c .before .room-at .ensures) (c .go-into .ensures)
+returns c =
+    rw (c .before .before .before .lead .given .1, ← c .before .room-at .ensures .0, ← c .before .room-at .ensures .1) (c .go-into .ensures)
 
 returns-2 : tie.Need-returns-2
 unfolding ahead
-returns-2 c = rw (c .before .before .before .lead2 .given .1, ← c .before .room-at2 .ensures) (c .go-into2 .ensures)
+returns-2 c =
+    rw (c .before .before .before .lead2 .given .1, ← c .before .room-at2 .ensures .0, ← c .before .room-at2 .ensures .1) (c .go-into2 .ensures)
 
 returns-3 : tie.Need-returns-3
 unfolding ahead

@@ -73,8 +73,8 @@ carry-requires c κs =
       ),
     )
 
-cast-t20 : tie.Need-cast-t20
-cast-t20 c =
+cast-t21 : tie.Need-cast-t21
+cast-t21 c =
     let i = c .before .before .before .before in
     let k = i .before in
     omega (arith, target k (i .if2 .left), slots-most _ (k .before .before .before .before .before .pre .board))
@@ -102,6 +102,6 @@ move-in-table-spec =
     same-length-2
     returns-2
     carry-requires
-    cast-t20
+    cast-t21
     same-length-3
     returns-3)

@@ -1,13 +1,12 @@
 -- `router::taking::judge_taking` meets its contract: each way out is a row of the refusals, and past them the room found decides.
 -- Assumes nothing.
-use mathlib.Core.Path.{_≡_, sym, ap, _∙_}
+use mathlib.Core.Path.{_≡_, refl, sym, ap, _∙_}
 use mathlib.Core.Bool.{true, not}
 use native.Mathlib.Omega.{arith}
 use borrow.Author.Needs.{needs}
 use Rattle.network.proofs.Tests.{cond-true, cond-false, not-held, not-failed}
-use Rattle.network.specs.declared.Lowest.{Lowest}
 use Rattle.board.specs.Board.{netOf}
-use Rattle.router.specs.Verdicts.{into}
+use Rattle.table.proofs.QueueLaws.{room-counted}
 use Rattle.router.proofs.TakeLaws.{all-given-out, take-refuses, take-into}
 use Rattle.router.proofs.taking.judge_taking.Statement.{statement}
 use Rattle.router.proofs.taking.judge_taking.Tie as tie
@@ -59,13 +58,15 @@ waiting-room-requires c κs =
     (d .before .before .before .before .pre, source-on d)
 
 go-into-requires : tie.Need-go-into-requires
-go-into-requires c κs = search needs
+go-into-requires c κs =
+    rw (c .waiting-room .ensures .0, c .waiting-room .ensures .1) (room-counted _ _ _)
 
 returns-4 : tie.Need-returns-4
 returns-4 c =
     let d = c .before .before .before .before in
+    let w = c .before .waiting-room .ensures in
     c .go-into .ensures
-    ∙ ap (λ (r : Lowest). into r 0) (c .before .waiting-room .ensures)
+    ∙ rw (w .0, w .1) refl
     ∙ sym (take-into _ _ _ _ (source-on (d .before .before)) (destination-on d) (c .before .before .if3 .left))
 
 pub judge-taking-spec : {M : Type 1} → statement M

@@ -6,6 +6,7 @@ use mathlib.Core.Logic.{_≢_}
 use mathlib.Core.List.{List}
 use native.Mathlib.Omega.{arith}
 use borrow.Author.Needs.{needs}
+use Rattle.network.specs.declared.Lowest.the-variants.{At}
 use Rattle.slots.specs.Slots.{withSlot}
 use Rattle.board.specs.Board.{GoodBoard}
 use Rattle.board.specs.Layout.{layoutOf}
@@ -15,9 +16,9 @@ use Rattle.trailer.specs.Trailer.{withTaken}
 use Rattle.table.specs.Calls.{outcome}
 use Rattle.router.specs.declared.taking.Taken.{Taken}
 use Rattle.router.specs.declared.verdict.Verdict.{Verdict}
-use Rattle.router.specs.TakeIn.{refusal, newRecord, tookIn, takenIn}
-use Rattle.router.specs.Verdicts.{takeVerdict}
-use Rattle.router.proofs.TakeLaws.{Welcome, takeDue, due-welcome, berth-within, taken-refused, taken-done, take-number, take-slot}
+use Rattle.router.specs.TakeIn.{refusal, waitingEmpties, newRecord, tookIn, takenIn}
+use Rattle.router.specs.Verdicts.{into, takeVerdict}
+use Rattle.router.proofs.TakeLaws.{Welcome, takeDue, due-welcome, berth, berth-within, taken-refused, taken-done, take-number, take-done}
 use Rattle.router.proofs.taking.take_in_table.Statement.{statement}
 use Rattle.router.proofs.taking.take_in_table.Tie as tie
 
@@ -36,15 +37,17 @@ module _ (h : Head) (t : List ℕ) (source destination : ℕ) (v : Verdict) (e :
     welcome : Welcome h t source destination
     welcome = due-welcome h t source destination none
 
+    into-berth : v ≡ into (At (berth h t source destination welcome)) (waitingEmpties h t source) 0
+    into-berth = take-done h t source destination v e none
+
     slot-in : GoodBoard (h .board) → v .slot < layoutOf (h .board) .size
-    slot-in g = rw (take-slot h t source destination v e none) (berth-within h t source destination welcome g)
+    slot-in g = rw into-berth (berth-within h t source destination welcome g)
 
     ends-taken : (payload p u w : List ℕ) → p ≡ newRecord source destination (h .taken) payload → u ≡ withSlot t (v .slot) p
         → w ≡ withTaken u (h .taken + 1)
-        → outcome record { number = 0; slot = v .slot; serial = h .taken } w ≡ takenIn h t source destination payload
+        → outcome record { number = 0; slot = v .slot; serial = h .taken; left = v .left } w ≡ takenIn h t source destination payload
     unfolding tookIn
-    ends-taken payload p u w f g k =
-        rw (k, g, f) (sym (taken-done h t source destination payload none ∙ ap (tookIn h t source destination payload) (sym (take-slot h t source destination v e none))))
+    ends-taken payload p u w f g k = rw (k, g, f, into-berth) (sym (taken-done h t source destination payload none))
 
 judge-taking-requires : tie.Need-judge-taking-requires
 judge-taking-requires c κs = search needs
@@ -73,8 +76,8 @@ write-slot-requires c κs =
 put-taken-requires : tie.Need-put-taken-requires
 put-taken-requires c κs = search needs
 
-cast-t20 : tie.Need-cast-t20
-cast-t20 c =
+cast-t21 : tie.Need-cast-t21
+cast-t21 c =
     let i = c .before .before .before .before .before .before .before .before .before in
     let s = i .before .before .before .before in
     omega (arith, slot-in _ _ _ _ _ (i .before .judge-taking .ensures) (i .if1 .left) (s .pre .board), slots-most _ (s .pre .board))
@@ -103,6 +106,6 @@ take-in-table-spec =
     new-record-requires
     write-slot-requires
     put-taken-requires
-    cast-t20
+    cast-t21
     same-length-2
     returns-2)
