@@ -1,6 +1,7 @@
 pub mod Tests
 pub mod SearchLaws
 pub mod CountingLaws
+pub mod QueueSlots
 pub mod Lists
 pub mod Course
 pub mod Kept

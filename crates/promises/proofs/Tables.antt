@@ -10,7 +10,7 @@ use lib.Seq.{drop-append-add}
 use Rattle.network.specs.declared.Place.{Place}
 use Rattle.network.specs.Net.{samePlace}
 use Rattle.network.specs.Search.{countWith}
-use Rattle.network.proofs.CountingLaws.{count-queue}
+use Rattle.network.proofs.QueueSlots.{count-queue}
 use Rattle.slots.specs.Bytes.{put, bytes32}
 use Rattle.slots.specs.Slots.{slotAt, zeros}
 use Rattle.slots.proofs.Parts.{length-put, take-put, drop-put}

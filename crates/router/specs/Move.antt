@@ -1,5 +1,6 @@
 -- Move (slot, code): 1, 2, 3, 4, 5, 6. The code is the chooser's proposal and is trusted in nothing. An accepted move puts the packet into
--- the lowest empty slot of its target queue and leaves the old slot; delivery hands out its 16 bytes and adds one to delivered.
+-- the lowest empty slot of its target queue and leaves the old slot; delivery hands out its 16 bytes and adds one to delivered. The answer tells how
+-- many slots are then empty in the queue that the packet went into or, delivered, left (document 02, order 1).
 -- Assumes nothing.
 use Prim.Native.Nat.{ℕ, _+_, _-_}
 use mathlib.Core.Bool.{Bool, true, false, not}

@@ -1,5 +1,5 @@
 -- Take in (source, destination, payload): 1, 2, 7, 6. The waiting slot used is the source's. The serial is the old taken count; taken
--- rises by one; hops 0.
+-- rises by one; hops 0. The answer tells how many slots of that queue are then empty (document 02, order 1).
 -- Assumes nothing.
 use Prim.Native.Nat.{ℕ, _+_, _-_}
 use mathlib.Core.Bool.{not}

@@ -1,4 +1,4 @@
--- The lowest-numbered empty slot of a queue (document 01, "The rule of moves"), and how many of its slots are empty (order 1).
+-- The lowest-numbered empty slot of a queue (document 01, "The rule of moves"), and how many of its slots are empty (document 02, order 1).
 -- Assumes nothing.
 use Prim.Native.Nat.{ℕ}
 use mathlib.Core.List.{List}
