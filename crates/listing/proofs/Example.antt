@@ -12,29 +12,17 @@ use borrow.Author.Tests.{eq-eqb}
 use Rattle.network.specs.Packet.{good}
 use Rattle.network.proofs.Tests.{and-yes}
 use Rattle.slots.specs.Slots.{slotAt}
-use Rattle.board.specs.Board.{boardOk, netOf, coordinatesOf}
+use Rattle.board.specs.Board.{boardOk, netOf}
 use Rattle.board.specs.Layout.{layoutOf}
 use Rattle.board.proofs.BoardLaws.{net-laws}
-use Rattle.trailer.specs.declared.Head.{Head}
 use Rattle.trailer.specs.Trailer.{headOk, trailerOf}
 use Rattle.table.specs.Packets.{goodAt}
 use Rattle.survey.specs.Check.{firstSpoiled, firstRepeat, miscount, faultIn, checkedSlice}
 use Rattle.text.specs.Dec.{dec, decFrom}
 use Rattle.text.specs.Text.{text}
-use Rattle.listing.specs.Line.{gridText, countsText, headLine, nodeText, placeText, packetText, slotLine, lastLine, lineText, joined}
-use Rattle.listing.specs.Lines.{rowAt, rowsIn, onto, wholeLines, linesOf, tableText}
+use Rattle.lines.proofs.Example.{packet, trailer, head, table-example}
 use Rattle.listing.specs.Output.{refusalLine, faultLine, listing, verdict}
 use Rattle.listing.specs.Outward.{copyAlone, wordsAlone, sentOf}
-
--- a 2 by 1 grid of depth 1, one packet taken in from (0,0) to (1,0)
-abbrev packet : List ℕ
-packet = 1 ∷ 0 ∷ 1 ∷ 0 ∷ 0 ∷ 0 ∷ 0 ∷ 0 ∷ 1 ∷ 2 ∷ 3 ∷ 4 ∷ 5 ∷ 6 ∷ 7 ∷ 8 ∷ []
-
-abbrev trailer : List ℕ
-trailer = 2 ∷ 1 ∷ 1 ∷ 0 ∷ 1 ∷ 0 ∷ 0 ∷ 0 ∷ 0 ∷ 0 ∷ 0 ∷ 0 ∷ 112 ∷ 0 ∷ 0 ∷ 0 ∷ []
-
-abbrev head : Head
-head = record { board = record { width = 2; height = 1; depth = 1 }; taken = 1; delivered = 0; size = 112 }
 
 -- it is good in slot 0, whatever follows
 packet-good : (v : List ℕ) → goodAt head (packet ++ v) 0 ≡ true
@@ -62,14 +50,10 @@ unfoldable checks : Unit {0}
 unfolding words slotAt boardOk layoutOf headOk trailerOf firstSpoiled firstRepeat miscount faultIn
 checks = tt
 
-unfoldable lines : Unit {0}
-unfolding listing tableText linesOf wholeLines onto rowsIn rowAt joined lineText headLine gridText countsText slotLine placeText packetText nodeText coordinatesOf lastLine
-lines = tt
-
 pub example : listing (packet ++ replicate 80 0 ++ trailer)
     ≡ text "grid 2 1 depth 1 taken 1 delivered 0\n0 W 0,0 from 0,0 to 1,0 hops 0 serial 0\nheld 1\n"
-unfolding checks lines
-example = rw (packet-good (replicate 80 0 ++ trailer))
+unfolding checks listing
+example = rw (packet-good (replicate 80 0 ++ trailer)) table-example
 
 pub refusals : (refusalLine 9 ≡ text "refused 9\n") × ((refusalLine 1 ≡ text "refused 1\n") × (faultLine 27 ≡ text "refused 10 at 27\n"))
 unfolding words

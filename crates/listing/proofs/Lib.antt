@@ -1,5 +1,3 @@
-pub mod LineLaws
-pub mod RowLaws
 pub mod Bounds
 pub mod OutputLaws
 pub mod OutwardLaws

@@ -17,8 +17,8 @@ use Rattle.table.specs.Calls.{outcome}
 use Rattle.survey.specs.Check.{unlessFault, readBy, onPassing, checkedSlice}
 use Rattle.text.specs.Put.{Wrote}
 use Rattle.text.proofs.PutLaws.{wrote-long}
+use Rattle.lines.specs.Lines.{tableText}
 use Rattle.listing.specs.declared.answering.Listed.{Listed}
-use Rattle.listing.specs.Lines.{tableText}
 use Rattle.listing.specs.Output.{most, refusalLine, faultLine, verdictLine, listing, verdict, listed, into}
 
 module _ (s : List ℕ) where

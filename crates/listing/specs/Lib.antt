@@ -1,4 +1,2 @@
-pub mod Line
-pub mod Lines
 pub mod Output
 pub mod Outward

@@ -1,6 +1,6 @@
 -- What the listing program prints, for any input (document 01, "The listing program"), and the one line of the check.
 -- Assumes nothing.
-use Prim.Native.Nat.{ℕ, _+_, _*_}
+use Prim.Native.Nat.{ℕ}
 use mathlib.Core.Bool.{cond}
 use mathlib.Core.List.{List, _++_}
 use lib.Dec.{ltb}
@@ -12,8 +12,8 @@ use Rattle.survey.specs.declared.checking.Checked.the-variants.{Passes, BadTrai
 use Rattle.survey.specs.Check.{onPassing, checkedSlice}
 use Rattle.text.specs.Dec.{dec}
 use Rattle.text.specs.Text.{text}
+use Rattle.lines.specs.Lines.{tableText, room}
 use Rattle.listing.specs.declared.answering.Listed.{Listed}
-use Rattle.listing.specs.Lines.{tableText}
 
 -- the longest input that is read
 abbrev pub most : ℕ
@@ -44,10 +44,6 @@ listing s = unlessLong s (onPassing s (refusalLine trailer-not-good) faultLine t
 -- the one line that tells whether s passes
 unfoldable pub verdict : List ℕ → List ℕ
 verdict s = unlessLong s (verdictLine (checkedSlice s))
-
--- 3,840 lines of at most 59 bytes, a head line of at most 57 and a last line of at most 10
-abbrev pub room : ℕ
-room = 3840 * 59 + 57 + 10
 
 -- no line is longer
 abbrev pub lineRoom : ℕ

@@ -11,14 +11,11 @@ ghost use Rattle.table.specs.Refusals.{wrong-length};
 ghost use Rattle.table.specs.Calls.{outcome};
 ghost use Rattle.survey.specs.Check.{unlessFault};
 ghost use Rattle.text.specs.Put.{Fits, Wrote};
-ghost use Rattle.listing.specs.Lines.{tableText};
+ghost use Rattle.lines.specs.Lines.{tableText};
 ghost use Rattle.listing.specs.Output.{refusalLine, faultLine, verdictLine, listing, verdict, listed, listedInto, verdictInto};
 
 // The longest input that is read.
 pub const MOST: usize = 65536;
-
-// 226,627: a slot's line has at most 59 bytes, the head line 57, the last line 10.
-pub const ROOM: usize = 3840 * 59 + 57 + 10;
 
 // No line is longer.
 pub const LINE_ROOM: usize = 59;
@@ -65,7 +62,7 @@ fn put_checked(buf: &mut [u8], at: usize, t: &[u8], h: Head) -> usize
     ensures { λ r. ⌜ Wrote (now (buf .entry)) at (unlessFault faultLine tableText h (now (t .entry))) (now (buf .exit)) r ⌝ }
 {
     let Lowest::At(place) = survey::checking::first_fault(t, h) else {
-        return crate::writing::put_table(buf, at, t, h);
+        return lines::put_table(buf, at, t, h);
     };
     put_fault(buf, at, place as u32)
 }
@@ -110,7 +107,7 @@ pub fn list_table(s: &[u8], out: &mut [u8]) -> Listed
     ensures { λ r. ⌜ r .length ≤ length (now (out .exit)) ⌝ }
     ensures { λ r. ⌜ r .length ≡ length (take (r .length) (now (out .exit))) ⌝ }
 {
-    if out.len() < ROOM {
+    if out.len() < lines::ROOM {
         return refused();
     }
     let length = put_listing(out, 0, s);

@@ -2,11 +2,11 @@
 ghost use mathlib.Core.Path.{_≡_};
 ghost use Prim.Native.Nat.{_+_};
 ghost use lib.ListN.{length};
-ghost use Rattle.listing.specs.Output.{most, room};
+ghost use Rattle.lines.specs.Lines.{room};
+ghost use Rattle.listing.specs.Output.{most};
 
 pub mod answering;
 pub mod sending;
-mod writing;
 
 pub use answering::check_line;
 pub use answering::list_table;
@@ -20,8 +20,8 @@ pub fn input_room() -> [u8; answering::MOST + 1]
 }
 
 // Room for the longest output.
-pub fn output_room() -> [u8; answering::ROOM]
+pub fn output_room() -> [u8; lines::ROOM]
     ensures { λ r. ⌜ room ≡ length r ⌝ }
 {
-    [0; answering::ROOM]
+    [0; lines::ROOM]
 }

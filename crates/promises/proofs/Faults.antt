@@ -13,7 +13,8 @@ use Rattle.network.specs.declared.Lowest.the-variants.{At, Nowhere}
 use Rattle.network.proofs.Tests.{clash, both-true, and-both}
 use Rattle.network.proofs.SearchLaws.{at-lowest, nowhere-none}
 use Rattle.table.specs.Packets.{goodAt}
-use Rattle.survey.specs.Check.{heldAt, serialAt, spoiledAt, firstSpoiled, hasSerial, repeatsAt, firstRepeat, heldBelow, miscount, orElse, faultIn}
+use Rattle.table.specs.Held.{heldAt, heldBelow}
+use Rattle.survey.specs.Check.{serialAt, spoiledAt, firstSpoiled, hasSerial, repeatsAt, firstRepeat, miscount, orElse, faultIn}
 use Rattle.survey.proofs.CheckLaws.{fault-none, serial-unused}
 use Rattle.survey.proofs.Meaning.{count-held}
 use Rattle.calls.specs.Slices.{headIn, tableIn, GoodIn, slotsIn, heldIn}

@@ -22,16 +22,15 @@ use Rattle.board.specs.Layout.{layoutOf}
 use Rattle.board.proofs.BoardLaws.{slots-most}
 use Rattle.trailer.specs.declared.Head.{Head}
 use Rattle.table.specs.Packets.{goodAt}
+use Rattle.table.specs.Held.{heldAt, heldBelow}
 use Rattle.survey.specs.declared.checking.Checked.the-variants.{Passes, FaultAt}
 use Rattle.survey.specs.Check.{
-  heldAt,
   serialAt,
   spoiledAt,
   firstSpoiled,
   hasSerial,
   repeatsAt,
   firstRepeat,
-  heldBelow,
   miscount,
   orElse,
   faultOr,

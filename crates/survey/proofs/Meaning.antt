@@ -23,8 +23,9 @@ use Rattle.board.specs.Board.{GoodBoard, netOf}
 use Rattle.board.specs.Layout.{layoutOf}
 use Rattle.trailer.specs.declared.Head.{Head}
 use Rattle.table.specs.Packets.{slotOf, viewOf, itemIn, goodAt}
+use Rattle.table.specs.Held.{heldAt, heldBelow}
 use Rattle.table.proofs.PacketLaws.{good-here}
-use Rattle.survey.specs.Check.{heldAt, serialAt, spoiledAt, hasSerial, repeatsAt, heldBelow, faultIn}
+use Rattle.survey.specs.Check.{serialAt, spoiledAt, hasSerial, repeatsAt, faultIn}
 use Rattle.survey.proofs.CheckLaws.{fault-none, held-good, none-fault, unused-serial, serial-unused}
 
 module _ (h : Head) (t : List ℕ) where

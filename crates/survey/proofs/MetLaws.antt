@@ -9,9 +9,10 @@ use native.Mathlib.Nat.{not-suc-le-zero}
 use lib.ListN.{getD, replicate}
 use borrow.Author.Count.{below-more}
 use Rattle.network.proofs.Tests.{clash}
+use Rattle.table.specs.Held.{heldAt}
 use Rattle.filter.specs.Flags.{flagAt, raised}
 use Rattle.filter.proofs.FlagLaws.{raised-full, raised-bytes, raised-up, raised-kept}
-use Rattle.survey.specs.Check.{heldAt, serialAt, hasSerial}
+use Rattle.survey.specs.Check.{serialAt, hasSerial}
 use Rattle.survey.specs.Met.{Met}
 use Rattle.survey.proofs.CheckLaws.{unused-serial}
 

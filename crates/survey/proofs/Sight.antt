@@ -13,8 +13,9 @@ use Rattle.board.specs.Layout.{layoutOf}
 use Rattle.trailer.specs.declared.Head.{Head}
 use Rattle.table.specs.declared.packets.Fields.{Fields}
 use Rattle.table.specs.Packets.{goodAt, fieldsOf, itemBy}
+use Rattle.table.specs.Held.{heldBelow}
 use Rattle.table.proofs.PacketLaws.{fields-same, good-by}
-use Rattle.survey.specs.Check.{serialAt, spoiledAt, firstSpoiled, hasSerial, repeatsAt, firstRepeat, heldBelow, miscount, faultIn}
+use Rattle.survey.specs.Check.{serialAt, spoiledAt, firstSpoiled, hasSerial, repeatsAt, firstRepeat, miscount, faultIn}
 
 -- the first n slots of two tables look the same to the check
 pub record SeenSame (n : ℕ) (t w : List ℕ) : Type 0 where

@@ -16,8 +16,9 @@ use Rattle.trailer.specs.declared.Head.{Head}
 use Rattle.trailer.specs.declared.Headed.the-variants.{Good}
 use Rattle.trailer.specs.Trailer.{trailerOf}
 use Rattle.trailer.proofs.TrailerLaws.{table-sized, trailer-same}
+use Rattle.table.specs.Held.{heldAt}
 use Rattle.table.proofs.PacketLaws.{good-here}
-use Rattle.survey.specs.Check.{heldAt, faultIn}
+use Rattle.survey.specs.Check.{faultIn}
 use Rattle.survey.specs.Copy.{withoutPayload, veiled}
 use Rattle.survey.proofs.CheckLaws.{held-good}
 use Rattle.survey.proofs.ShownLaws.{zeros-shown, front-shown, length-veiled, veiled-slot, veiled-end}

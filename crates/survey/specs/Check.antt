@@ -1,7 +1,7 @@
 -- Full check: 1; else it names its first fault as 10 with a place: the lowest spoiled slot; else the lowest held slot whose serial a lower
 -- held slot has; else S, where taken less delivered isn't the number of held slots.
 -- Assumes nothing.
-use Prim.Native.Nat.{ℕ, zero, suc, _+_, _-_}
+use Prim.Native.Nat.{ℕ, zero, suc, _-_}
 use mathlib.Core.List.{List, [], _∷_}
 use mathlib.Core.Bool.{Bool, false, not, cond, _&&_, _||_}
 use lib.Dec.{eqb}
@@ -18,13 +18,10 @@ use Rattle.trailer.specs.declared.Headed.the-variants.{Good, Bad}
 use Rattle.trailer.specs.Trailer.{trailerOf}
 use Rattle.table.specs.Refusals.{trailer-not-good, check-failed}
 use Rattle.table.specs.Packets.{goodAt}
-use Rattle.table.specs.Queues.{emptyAt}
+use Rattle.table.specs.Held.{heldAt, heldBelow}
 use Rattle.survey.specs.declared.checking.PlacedAnswer as declared
 use Rattle.survey.specs.declared.checking.Checked.{Checked}
 use Rattle.survey.specs.declared.checking.Checked.the-variants.{Passes, BadTrailer, FaultAt}
-
-abbrev pub heldAt : List ℕ → ℕ → Bool
-heldAt t k = not (emptyAt t k)
 
 abbrev pub serialAt : List ℕ → ℕ → ℕ
 serialAt t k = le32 (slotAt t k) 4
@@ -39,11 +36,6 @@ hasSerial t serial (suc n) = (heldAt t n && eqb (serialAt t n) serial) || hasSer
 
 abbrev pub repeatsAt : List ℕ → ℕ → Bool
 repeatsAt t k = heldAt t k && hasSerial t (serialAt t k) k
-
--- how many slots below n are held
-abbrev pub heldBelow : List ℕ → ℕ → ℕ
-heldBelow t zero = 0
-heldBelow t (suc n) = cond (heldAt t n) 1 0 + heldBelow t n
 
 -- the three searches
 unfoldable pub firstSpoiled : Head → List ℕ → Lowest

@@ -6,8 +6,9 @@ use mathlib.Core.Path.{_≡_}
 use mathlib.Core.List.{List}
 use mathlib.Core.Bool.{true}
 use lib.ListN.{length, getD}
+use Rattle.table.specs.Held.{heldAt}
 use Rattle.filter.specs.Flags.{flagAt}
-use Rattle.survey.specs.Check.{heldAt, serialAt}
+use Rattle.survey.specs.Check.{serialAt}
 
 -- 512 bytes in which the serial, modulo 4,096, of every held slot below k has its flag up
 pub record Met (t flags : List ℕ) (k : ℕ) : Type 0 where

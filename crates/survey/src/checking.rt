@@ -6,7 +6,8 @@ ghost use mathlib.Core.Path.{_≡_};
 ghost use Prim.Native.Nat.{_+_, _*_, _≤_, _<_};
 ghost use lib.ListN.{length};
 ghost use Rattle.board.specs.Layout.{layoutOf, Sized};
-ghost use Rattle.survey.specs.Check.{heldAt, spoiledAt, firstSpoiled, hasSerial, repeatsAt, firstRepeat, heldBelow, miscount, faultIn, checkedIn, checkedSlice, checkAnswer};
+ghost use Rattle.table.specs.Held.{heldAt, heldBelow};
+ghost use Rattle.survey.specs.Check.{spoiledAt, firstSpoiled, hasSerial, repeatsAt, firstRepeat, miscount, faultIn, checkedIn, checkedSlice, checkAnswer};
 ghost use Rattle.survey.specs.Met.{Met};
 
 pub enum Checked {

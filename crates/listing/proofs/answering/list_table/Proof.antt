@@ -2,7 +2,8 @@
 -- Assumes nothing.
 use native.Mathlib.Omega.{arith}
 use borrow.Author.Needs.{needs}
-use Rattle.listing.specs.Output.{listing, listedInto, room}
+use Rattle.lines.specs.Lines.{room}
+use Rattle.listing.specs.Output.{listing, listedInto}
 use Rattle.listing.proofs.OutputLaws.{printed-not, printed}
 use Rattle.listing.proofs.Bounds.{listing-short}
 use Rattle.listing.proofs.answering.list_table.Statement.{statement}

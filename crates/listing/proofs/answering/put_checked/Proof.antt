@@ -4,7 +4,7 @@ use mathlib.Core.Path.{_≡_, sym, _∙_}
 use borrow.Author.Needs.{needs}
 use Rattle.network.specs.declared.Lowest.the-variants.{At, Nowhere}
 use Rattle.survey.specs.Check.{faultIn}
-use Rattle.survey.proofs.CheckLaws.{fault-fits}
+use Rattle.survey.proofs.CheckLaws.{fault-none, fault-fits}
 use Rattle.listing.proofs.answering.put_checked.Statement.{statement}
 use Rattle.listing.proofs.answering.put_checked.Tie as tie
 
@@ -28,7 +28,7 @@ put-table-requires : tie.Need-put-table-requires
 put-table-requires c κs =
     let e = passes (c .before) in
     let s = c .before .before .before .before .before .before in
-    (s .pre .0, (s .pre .1 .0, (e, rw e at (s .pre .1 .1))))
+    (s .pre .0, (s .pre .1 .0, (fault-none (s .args .h) (s .args .t .now) e .counted, rw e at (s .pre .1 .1))))
 
 same-length : tie.Need-same-length
 same-length c = search needs

@@ -5,7 +5,7 @@ use mathlib.Core.Path.{_≡_, refl}
 use mathlib.Core.Logic.{⊎-elim}
 use native.Mathlib.Omega.{arith}
 use Rattle.network.proofs.Tests.{held, failed}
-use Rattle.survey.specs.Check.{heldBelow}
+use Rattle.table.specs.Held.{heldBelow}
 use Rattle.survey.proofs.CheckLaws.{held-more, held-same}
 use Rattle.survey.proofs.checking.held_below.Statement.{statement}
 use Rattle.survey.proofs.checking.held_below.Tie as tie

@@ -7,7 +7,8 @@ use borrow.Author.Tests.{eq-eqb, ne-eqb}
 use Rattle.network.specs.declared.Lowest.the-variants.{At}
 use Rattle.network.proofs.Tests.{cond-true, cond-false}
 use Rattle.board.proofs.BoardLaws.{slots-inside}
-use Rattle.survey.specs.Check.{heldBelow, miscount}
+use Rattle.table.specs.Held.{heldBelow}
+use Rattle.survey.specs.Check.{miscount}
 use Rattle.survey.proofs.checking.miscounted.Statement.{statement}
 use Rattle.survey.proofs.checking.miscounted.Tie as tie
 
