@@ -20,9 +20,9 @@ use Rattle.trailer.specs.Trailer.{trailerOf}
 use Rattle.trailer.proofs.TrailerLaws.{trailer-sized}
 use Rattle.table.specs.Calls.{Outcome, onHeaded}
 use Rattle.table.proofs.RefusalLaws.{accepted-by, refused-by}
+use Rattle.judging.specs.Named.{slotDue}
+use Rattle.judging.proofs.NamedLaws.{due-named}
 use Rattle.router.specs.ReadPayload.{Reading, reading, refusal, readIn, readSlice}
-use Rattle.router.specs.Verdicts.{slotDue}
-use Rattle.router.proofs.NamedLaws.{due-named}
 use Rattle.router.proofs.ReadLaws.{read-refused, read-done}
 use Rattle.paneglove.specs.declared.Read.{Read}
 use Rattle.paneglove.specs.Across.{readAcross}

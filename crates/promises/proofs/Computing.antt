@@ -12,9 +12,10 @@ use Rattle.trailer.specs.Trailer.{headOk, trailerOf, withTaken, withDelivered, 
 use Rattle.table.specs.Packets.{goodAt}
 use Rattle.table.specs.Queues.{roomAt, emptiesAt}
 use Rattle.table.specs.Carriage.{vacated, carried}
+use Rattle.judging.specs.Moves.{moveDue}
 use Rattle.router.specs.Clear.{clearedAs, clearedSlice}
 use Rattle.router.specs.TakeIn.{newRecord, tookIn, takenIn, takenSlice}
-use Rattle.router.specs.Move.{moveDue, gone, handedOut, movedIn, movedSlice}
+use Rattle.router.specs.Move.{gone, handedOut, movedIn, movedSlice}
 use Rattle.router.specs.ReadPayload.{readIn, readSlice}
 use Rattle.survey.specs.Check.{firstSpoiled, firstRepeat, miscount, faultIn, checkedIn, checkedSlice}
 use Rattle.calls.specs.Slices.{headIn, tableIn, beforeIn}

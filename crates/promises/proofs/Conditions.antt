@@ -26,8 +26,8 @@ use Rattle.table.specs.Packets.{goodAt}
 use Rattle.table.specs.Queues.{emptyAt, roomAt}
 use Rattle.table.proofs.QueueLaws.{room-lowest, room-there, room-within}
 use Rattle.table.proofs.PacketLaws.{good-here}
-use Rattle.router.specs.Move.{leadOf, barred, blocked}
-use Rattle.router.specs.Verdicts.{Targets}
+use Rattle.judging.specs.Moves.{leadOf, barred, blocked}
+use Rattle.judging.specs.Verdicts.{Targets}
 use Rattle.calls.specs.Slices.{headIn, boardIn, tableIn, GoodIn, layoutIn, netIn, slotsIn, slotIn, placeIn}
 use Rattle.promises.specs.Conditions.{EmptyAt, HeldAt, GoodAt, leadIn, EmptyOf, HasEmpty, LowestOf, Room}
 use Rattle.promises.proofs.Reading.{good-is, table-fits}

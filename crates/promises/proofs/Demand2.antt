@@ -12,9 +12,10 @@ use Rattle.network.proofs.Tests.{clash}
 use Rattle.board.specs.Layout.{layoutOf}
 use Rattle.trailer.specs.declared.Head.{Head}
 use Rattle.table.specs.Calls.{Outcome}
-use Rattle.router.specs.Move.{barred, leadOf, movedSlice}
-use Rattle.router.proofs.NamedLaws.{targets}
-use Rattle.router.proofs.MoveLaws.{Granted, due-granted, granted-due}
+use Rattle.judging.specs.Moves.{barred, leadOf}
+use Rattle.judging.proofs.NamedLaws.{targets}
+use Rattle.judging.proofs.GrantedLaws.{Granted, due-granted, granted-due}
+use Rattle.router.specs.Move.{movedSlice}
 use Rattle.survey.specs.declared.copying.Copied.{Copied}
 use Rattle.survey.specs.declared.copying.Copied.the-variants.{Done, BadTrailer, FaultAt, WrongLength}
 use Rattle.survey.specs.Copy.{veiled, copiedSlice, copyAnswer}

@@ -16,8 +16,9 @@ use Rattle.slots.specs.Slots.{zeros}
 use Rattle.trailer.specs.declared.Head.{Head}
 use Rattle.table.specs.Packets.{packetOf}
 use Rattle.table.proofs.PacketLaws.{slot-held}
-use Rattle.router.specs.Move.{moveDue, movedSlice}
-use Rattle.router.proofs.MoveLaws.{due-granted}
+use Rattle.judging.specs.Moves.{moveDue}
+use Rattle.judging.proofs.GrantedLaws.{due-granted}
+use Rattle.router.specs.Move.{movedSlice}
 use Rattle.survey.specs.declared.checking.Checked.the-variants.{Passes}
 use Rattle.survey.specs.declared.finding.Found.{Found}
 use Rattle.survey.specs.declared.finding.Found.the-variants as found

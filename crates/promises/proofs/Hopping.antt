@@ -27,9 +27,10 @@ use Rattle.table.specs.Packets.{packetOf}
 use Rattle.table.specs.Carriage.{hop}
 use Rattle.table.proofs.PacketLaws.{packet-hop}
 use Rattle.table.specs.Calls.{Outcome}
+use Rattle.judging.specs.Moves.{barred, leadOf}
 use Rattle.router.specs.declared.moving.Moved.{Moved}
 use Rattle.router.specs.declared.taking.Taken.{Taken}
-use Rattle.router.specs.Move.{barred, leadOf, movedSlice}
+use Rattle.router.specs.Move.{movedSlice}
 use Rattle.survey.specs.declared.checking.Checked.the-variants.{Passes}
 use Rattle.survey.specs.Check.{checkedSlice}
 use Rattle.calls.specs.Slices.{Bytes, headIn, boardIn, tableIn, GoodIn, slotsIn, slotIn, placeIn}

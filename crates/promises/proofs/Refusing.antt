@@ -13,9 +13,10 @@ use Rattle.network.specs.Net.{at}
 use Rattle.board.specs.declared.Board.{Board}
 use Rattle.board.specs.Layout.{tableSize}
 use Rattle.board.proofs.Sizes.{board-good, good-board}
+use Rattle.judging.specs.Takings.{takeRows}
 use Rattle.router.specs.declared.taking.Taken.{Taken}
 use Rattle.router.specs.Clear.{used, clearRows, clearedAs, clearedSlice}
-use Rattle.router.specs.TakeIn.{refusal as takeRefusal, takeRows, tookIn, takenIn, takenSlice}
+use Rattle.router.specs.TakeIn.{refusal as takeRefusal, tookIn, takenIn, takenSlice}
 use Rattle.calls.specs.Slices.{headIn, tableIn, GoodIn, netIn}
 use Rattle.promises.specs.Conditions.{HasEmpty}
 use Rattle.promises.specs.Demand1.{Grounds, end, ground, First, clearGrounds, takeGrounds, Refuses, NothingTaken}

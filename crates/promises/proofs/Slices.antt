@@ -36,9 +36,11 @@ use Rattle.table.specs.Carriage.{vacated, carried}
 use Rattle.table.specs.Calls.{Outcome, after}
 use Rattle.table.proofs.PacketLaws.{slot-says}
 use Rattle.table.proofs.CallLaws.{on-table-good}
+use Rattle.judging.specs.Moves.{barred, leadOf, moveDue}
+use Rattle.judging.proofs.GrantedLaws.{due-granted}
 use Rattle.router.specs.declared.moving.Moved.{Moved}
-use Rattle.router.specs.Move.{barred, leadOf, moveDue, movedIn, movedSlice}
-use Rattle.router.proofs.MoveLaws.{due-granted, moved-number}
+use Rattle.router.specs.Move.{movedIn, movedSlice}
+use Rattle.router.proofs.MoveLaws.{moved-number}
 use Rattle.router.proofs.Carrying.{Carries, hop-carries, turn-carries}
 use Rattle.router.proofs.Handing.{Hands, out-hands}
 use Rattle.calls.specs.Slices.{see}

@@ -23,9 +23,9 @@ use Rattle.trailer.specs.declared.Head.{Head}
 use Rattle.table.specs.Packets.{viewOf, itemIn, goodAt}
 use Rattle.table.specs.Queues.{emptyAt, roomAt}
 use Rattle.table.proofs.PacketLaws.{slot-says, slot-zeros}
-use Rattle.router.specs.Move.{barred, moveDue}
-use Rattle.router.proofs.NamedLaws.{Named}
-use Rattle.router.proofs.MoveLaws.{Granted, granted-due}
+use Rattle.judging.specs.Moves.{barred, moveDue}
+use Rattle.judging.proofs.NamedLaws.{Named}
+use Rattle.judging.proofs.GrantedLaws.{Granted, granted-due}
 
 -- an offered code is one that there is
 pub offered-known : (b : Board) (p : Place) (d c : ℕ) {lead : Lead} → netOf b .rule p d c ≡ lead → barred lead ≡ false → netOf b .known c ≡ true

@@ -14,11 +14,13 @@ use Rattle.trailer.specs.Trailer.{trailerOf}
 use Rattle.table.specs.Refusals.{Row, firstDue, trailer-not-good}
 use Rattle.table.specs.Calls.{Outcome, outcome, answered, after, onHeaded, onTable}
 use Rattle.table.proofs.CallLaws.{answered-done, answered-refused}
+use Rattle.judging.specs.Named.{slotRows}
+use Rattle.judging.specs.Takings.{takeRows}
 use Rattle.router.specs.declared.moving.Moved.{Moved}
 use Rattle.router.specs.declared.taking.Taken.{Taken}
 use Rattle.router.specs.Clear.{used, clearRows, clearedAs, clearedSlice}
-use Rattle.router.specs.TakeIn.{refusal as takeRefusal, takeRows, tookIn, takenIn, takenSlice}
-use Rattle.router.specs.Move.{refusal as moveRefusal, slotRows, movedIn, movedSlice}
+use Rattle.router.specs.TakeIn.{refusal as takeRefusal, tookIn, takenIn, takenSlice}
+use Rattle.router.specs.Move.{refusal as moveRefusal, movedIn, movedSlice}
 use Rattle.router.specs.ReadPayload.{Reading, refusal as readRefusal, readIn, readSlice}
 use Rattle.router.proofs.MoveLaws.{moved-refused, moved-number}
 

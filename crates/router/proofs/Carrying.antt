@@ -39,9 +39,11 @@ use Rattle.table.proofs.QueueLaws.{room-lowest, room-within, room-there}
 use Rattle.table.proofs.PacketLaws.{mark-not-zero, slot-held, slot-empty, packet-hop}
 use Rattle.table.proofs.CarriageLaws.{vacated-other, length-carried, carried-to, carried-else, trailer-carried}
 use Rattle.table.proofs.RoomLaws.{carried-room}
-use Rattle.router.specs.Move.{leadOf, moveDue, gone, ledOn, movedIn}
-use Rattle.router.proofs.NamedLaws.{named-good, targets}
-use Rattle.router.proofs.MoveLaws.{moved-granted, hop-room, turn-room}
+use Rattle.judging.specs.Moves.{leadOf, moveDue}
+use Rattle.judging.proofs.NamedLaws.{named-good, targets}
+use Rattle.judging.proofs.GrantedLaws.{hop-room, turn-room}
+use Rattle.router.specs.Move.{gone, ledOn, movedIn}
+use Rattle.router.proofs.MoveLaws.{moved-granted}
 use Rattle.router.proofs.Leaving.{Leaving, leaving, vacates}
 
 -- the packet of slot k, with more hops, has gone to the lowest empty slot of the target queue

@@ -25,8 +25,9 @@ use Rattle.table.proofs.PacketLaws.{slot-held}
 use Rattle.table.proofs.QueueLaws.{empties-same}
 use Rattle.table.proofs.CarriageLaws.{length-vacated, trailer-vacated}
 use Rattle.table.proofs.RoomLaws.{vacated-room}
-use Rattle.router.specs.Move.{leadOf, moveDue, handedOut, ledOn, movedIn}
-use Rattle.router.proofs.NamedLaws.{named-good}
+use Rattle.judging.specs.Moves.{leadOf, moveDue}
+use Rattle.judging.proofs.NamedLaws.{named-good}
+use Rattle.router.specs.Move.{handedOut, ledOn, movedIn}
 use Rattle.router.proofs.MoveLaws.{moved-granted}
 use Rattle.router.proofs.Leaving.{Leaving, leaving, vacates}
 

@@ -30,8 +30,10 @@ use Rattle.table.specs.Queues.{emptiesAt}
 use Rattle.table.specs.Calls.{outcome}
 use Rattle.table.proofs.PacketLaws.{mark-not-zero, slot-held, slot-empty}
 use Rattle.table.proofs.QueueLaws.{room-lowest, room-there, empties-room, empties-more}
-use Rattle.router.specs.TakeIn.{waitingRoom, waitingEmpties, newRecord, tookIn, takenIn}
-use Rattle.router.proofs.TakeLaws.{Welcome, takeDue, due-welcome, berth, berth-room, berth-within, taken-done, new-packet, length-newRecord}
+use Rattle.judging.specs.Takings.{waitingRoom, waitingEmpties}
+use Rattle.judging.proofs.WelcomeLaws.{Welcome, takeDue, due-welcome, berth, berth-room, berth-within}
+use Rattle.router.specs.TakeIn.{newRecord, tookIn, takenIn}
+use Rattle.router.proofs.TakeLaws.{taken-done, new-packet, length-newRecord}
 
 -- a packet as it is taken in: it waits at its source, with no hop made
 abbrev pub newPacket : ℕ → ℕ → ℕ → List ℕ → Packet

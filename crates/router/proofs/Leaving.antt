@@ -17,8 +17,8 @@ use Rattle.trailer.proofs.TrailerLaws.{table-sized}
 use Rattle.table.specs.Packets.{slotOf, viewOf}
 use Rattle.table.specs.Carriage.{vacated}
 use Rattle.table.proofs.CarriageLaws.{vacated-there, vacated-other}
-use Rattle.router.specs.Move.{moveDue}
-use Rattle.router.proofs.MoveLaws.{Granted, due-granted}
+use Rattle.judging.specs.Moves.{moveDue}
+use Rattle.judging.proofs.GrantedLaws.{Granted, due-granted}
 
 pub record Leaving (h : Head) (t : List ℕ) (k code : ℕ) : Type 0 where
   pub granted : Granted h t k code

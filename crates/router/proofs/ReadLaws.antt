@@ -11,8 +11,7 @@ use Rattle.trailer.specs.declared.Head.{Head}
 use Rattle.table.specs.Calls.{outcome}
 use Rattle.table.proofs.RefusalLaws.{accepted-by, refused-by}
 use Rattle.table.proofs.CallLaws.{answered-done, answered-refused}
-use Rattle.router.specs.Move.{slotRows}
-use Rattle.router.specs.Verdicts.{slotDue}
+use Rattle.judging.specs.Named.{slotRows, slotDue}
 use Rattle.router.specs.ReadPayload.{reading, refusal, readIn, further, offsetIn}
 
 module _ (h : Head) (t : List ℕ) (k : ℕ) where

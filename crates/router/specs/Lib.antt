@@ -2,4 +2,3 @@ pub mod Clear
 pub mod TakeIn
 pub mod Move
 pub mod ReadPayload
-pub mod Verdicts

@@ -2,41 +2,18 @@
 -- rises by one; hops 0. The answer tells how many slots of that queue are then empty (document 02, order 1).
 -- Assumes nothing.
 use Prim.Native.Nat.{ℕ, _+_, _-_}
-use mathlib.Core.Bool.{not}
-use mathlib.Core.List.{List, [], _∷_, _++_}
-use lib.Dec.{eqb}
-use Rattle.network.specs.declared.Kind.the-variants.{Waiting}
-use Rattle.network.specs.declared.Lowest.{Lowest}
-use Rattle.network.specs.Net.{at}
-use Rattle.network.specs.Search.{isAt, numberAt}
+use mathlib.Core.List.{List, _∷_, _++_}
+use Rattle.network.specs.Search.{numberAt}
 use Rattle.slots.specs.Bytes.{bytes32}
 use Rattle.slots.specs.Slots.{withSlot}
-use Rattle.board.specs.Board.{netOf}
 use Rattle.trailer.specs.declared.Head.{Head}
 use Rattle.trailer.specs.Trailer.{withTaken}
-use Rattle.table.specs.Refusals.{Row, row, out-of-range, all-taken, no-room}
-use Rattle.table.specs.Queues.{roomAt, emptiesAt}
 use Rattle.table.specs.Calls.{Outcome, outcome, answered, onTable}
+use Rattle.judging.specs.Takings.{waitingRoom, waitingEmpties, takeRows}
 use Rattle.router.specs.declared.taking.Taken.{Taken}
 
 abbrev pub refusal : ℕ → Taken
 refusal number = record { number = number; slot = 0; serial = 0; left = 0 }
-
--- the source's waiting slot, where it is empty
-abbrev pub waitingRoom : Head → List ℕ → ℕ → Lowest
-waitingRoom h t source = roomAt (h .board) t (at source Waiting)
-
--- how many slots of that queue are empty
-abbrev pub waitingEmpties : Head → List ℕ → ℕ → ℕ
-waitingEmpties h t source = emptiesAt (h .board) t (at source Waiting)
-
-abbrev pub takeRows : Head → List ℕ → ℕ → ℕ → List Row
-takeRows h t source destination =
-    row out-of-range (not (netOf (h .board) .valid source))
-    ∷ row out-of-range (not (netOf (h .board) .valid destination))
-    ∷ row all-taken (eqb (h .taken) 4294967295)
-    ∷ row no-room (not (isAt (waitingRoom h t source)))
-    ∷ []
 
 -- mark 1, source, destination, hops 0, serial, payload
 unfoldable pub newRecord : ℕ → ℕ → ℕ → List ℕ → List ℕ

@@ -3,7 +3,6 @@ pub mod clearing;
 pub mod moving;
 pub mod reading;
 pub mod taking;
-pub mod verdict;
 
 pub use clearing::clear;
 pub use moving::make_move;

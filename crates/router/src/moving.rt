@@ -1,17 +1,11 @@
 // The move: a proposed code for the packet of a slot. The verdict is read first; then the move does that one step.
-use crate::verdict::Verdict;
-use board::Board;
-use network::Lead;
-use network::Place;
 use trailer::Head;
 use trailer::Headed;
 ghost use mathlib.Core.Path.{_≡_};
 ghost use Prim.Native.Nat.{_<_};
-ghost use Rattle.board.specs.Board.{netOf};
 ghost use Rattle.board.specs.Layout.{layoutOf, Sized};
 ghost use Rattle.table.specs.Calls.{outcome};
 ghost use Rattle.router.specs.Move.{refusal, handedOut, movedIn, movedSlice};
-ghost use Rattle.router.specs.Verdicts.{ahead, moveVerdict, Targets};
 
 pub struct Moved {
     pub number: u32,
@@ -29,54 +23,6 @@ fn refused(number: u32) -> Moved
         packet: [0u8; 16],
         left: 0,
     }
-}
-
-// What the rule's answer comes to, in the table as it is.
-fn go_ahead(t: &[u8], b: Board, here: Place, lead: Lead) -> Verdict
-    requires { ⌜ Sized b (now t) ⌝ }
-    requires { ⌜ Targets (netOf b) here lead ⌝ }
-    ensures { λ r. ⌜ r ≡ ahead b (now (t .entry)) here lead ⌝ }
-{
-    let node = here.node;
-    let kind = here.kind;
-    match lead {
-        Lead::Hop(n) => {
-            let room = table::queues::room_at(t, b, Place { node: n, kind });
-            crate::verdict::go_into(room, 1)
-        }
-        Lead::Turn(k) => {
-            let room = table::queues::room_at(t, b, Place { node, kind: k });
-            crate::verdict::go_into(room, 0)
-        }
-        Lead::Out => Verdict {
-            number: 0,
-            leaves: true,
-            slot: 0,
-            hops: 0,
-            left: 0,
-        },
-        Lead::NotOffered => crate::verdict::refuse(table::refusals::NOT_OFFERED),
-    }
-}
-
-// Would this move be accepted, and where does the packet go?
-pub fn judge(t: &[u8], h: Head, slot: u32, code: u32) -> Verdict
-    requires { ⌜ Sized (h .board) (now t) ⌝ }
-    ensures { λ r. ⌜ r ≡ moveVerdict h (now (t .entry)) slot code ⌝ }
-{
-    let b = h.board;
-    if !board::is_code(b, code) {
-        return crate::verdict::refuse(table::refusals::OUT_OF_RANGE);
-    }
-    let k = slot as usize;
-    let due = crate::verdict::slot_due(t, h, k);
-    if due != 0 {
-        return crate::verdict::refuse(due);
-    }
-    let here = board::layout::place_of(b, k);
-    let destination = slots::slot_byte(t, k, 2);
-    let lead = board::rule(b, here, destination, code);
-    go_ahead(t, b, here, lead)
 }
 
 // The packet of a slot is handed out, and one more is delivered.
@@ -106,7 +52,7 @@ fn move_in_table(t: &mut [u8], h: Head, slot: u32, code: u32) -> Moved
     ensures { λ r. ⌜ outcome r (now (t .exit)) ≡ movedIn h (now (t .entry)) slot code ⌝ }
 {
     let b = h.board;
-    let v = judge(t, h, slot, code);
+    let v = judging::judge_move(t, h, slot, code);
     let number = v.number;
     let to = v.slot;
     let hops = v.hops;

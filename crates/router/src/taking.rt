@@ -1,17 +1,10 @@
 // Take in: a packet goes into the waiting slot of its source.
-use crate::verdict::Verdict;
-use network::Kind;
-use network::Place;
-use table::queues::QueueRoom;
 use trailer::Head;
 use trailer::Headed;
 ghost use mathlib.Core.Path.{_≡_};
-ghost use mathlib.Core.Bool.{true};
-ghost use Rattle.board.specs.Board.{netOf};
 ghost use Rattle.board.specs.Layout.{Sized};
 ghost use Rattle.table.specs.Calls.{outcome};
-ghost use Rattle.router.specs.TakeIn.{refusal, waitingRoom, waitingEmpties, newRecord, takenIn, takenSlice};
-ghost use Rattle.router.specs.Verdicts.{takeVerdict};
+ghost use Rattle.router.specs.TakeIn.{refusal, newRecord, takenIn, takenSlice};
 
 pub struct Taken {
     pub number: u32,
@@ -29,41 +22,6 @@ fn refused(number: u32) -> Taken
         serial: 0,
         left: 0,
     }
-}
-
-fn waiting_room(t: &[u8], h: Head, source: u8) -> QueueRoom
-    requires { ⌜ Sized (h .board) (now t) ⌝ }
-    requires { ⌜ netOf (h .board) .valid source ≡ true ⌝ }
-    ensures { λ r. ⌜ r .lowest ≡ waitingRoom h (now (t .entry)) source ⌝ }
-    ensures { λ r. ⌜ r .empty ≡ waitingEmpties h (now (t .entry)) source ⌝ }
-{
-    let b = h.board;
-    table::queues::room_at(
-        t,
-        b,
-        Place {
-            node: source,
-            kind: Kind::Waiting,
-        },
-    )
-}
-
-// Would this packet be taken in, and into which slot?
-fn judge_taking(t: &[u8], h: Head, source: u8, destination: u8) -> Verdict
-    requires { ⌜ Sized (h .board) (now t) ⌝ }
-    ensures { λ r. ⌜ r ≡ takeVerdict h (now (t .entry)) source destination ⌝ }
-{
-    let b = h.board;
-    if !board::is_node(b, source) {
-        return crate::verdict::refuse(table::refusals::OUT_OF_RANGE);
-    }
-    if !board::is_node(b, destination) {
-        return crate::verdict::refuse(table::refusals::OUT_OF_RANGE);
-    }
-    if h.taken == 4294967295 {
-        return crate::verdict::refuse(table::refusals::ALL_TAKEN);
-    }
-    crate::verdict::go_into(waiting_room(t, h, source), 0)
 }
 
 // A packet as it is taken in: mark, source, destination, no hops, serial, payload.
@@ -99,7 +57,7 @@ fn take_in_table(t: &mut [u8], h: Head, source: u8, destination: u8, payload: [u
     requires { ⌜ Sized (h .board) (now t) ⌝ }
     ensures { λ r. ⌜ outcome r (now (t .exit)) ≡ takenIn h (now (t .entry)) source destination payload ⌝ }
 {
-    let v = judge_taking(t, h, source, destination);
+    let v = judging::judge_taking(t, h, source, destination);
     let number = v.number;
     let slot = v.slot;
     let left = v.left;

@@ -17,8 +17,8 @@ use Rattle.board.specs.Board.{netOf}
 use Rattle.board.specs.Layout.{layoutOf}
 use Rattle.board.proofs.BoardLaws.{net-laws}
 use Rattle.trailer.specs.declared.Head.{Head}
-use Rattle.router.specs.Move.{moveDue}
-use Rattle.router.proofs.MoveLaws.{due-granted}
+use Rattle.judging.specs.Moves.{moveDue}
+use Rattle.judging.proofs.GrantedLaws.{due-granted}
 use Rattle.survey.specs.declared.finding.Found.the-variants.{Move, NothingHeld}
 use Rattle.survey.specs.Find.{accepts, firstCode, movable, moveAt, foundIn}
 

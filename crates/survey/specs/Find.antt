@@ -11,7 +11,7 @@ use Rattle.board.specs.Board.{netOf}
 use Rattle.board.specs.Layout.{layoutOf}
 use Rattle.trailer.specs.declared.Head.{Head}
 use Rattle.table.specs.Refusals.{trailer-not-good, check-failed, nothing-held}
-use Rattle.router.specs.Move.{moveDue}
+use Rattle.judging.specs.Moves.{moveDue}
 use Rattle.survey.specs.declared.finding.FindAnswer as declared
 use Rattle.survey.specs.declared.finding.Found.{Found}
 use Rattle.survey.specs.declared.finding.Found.the-variants.{Move, BadTrailer, FaultAt, NothingHeld}

@@ -57,7 +57,7 @@ fn first_code(t: &[u8], h: Head, slot: u32) -> Lowest
     let end = board::last_code(b) + 1;
     let mut code: u32 = 0;
     while code < end {
-        let v = router::moving::judge(t, h, slot, code);
+        let v = judging::judge_move(t, h, slot, code);
         let number = v.number;
         if number == 0 {
             return Lowest::At(code as usize);

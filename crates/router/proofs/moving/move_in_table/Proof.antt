@@ -8,9 +8,11 @@ use native.Mathlib.Omega.{arith}
 use Rattle.board.specs.Layout.{layoutOf}
 use Rattle.board.proofs.BoardLaws.{slots-most, slot-fits}
 use Rattle.table.specs.Calls.{outcome}
+use Rattle.judging.proofs.NamedLaws.{Named, named-good}
+use Rattle.judging.proofs.VerdictLaws.{granted}
+use Rattle.judging.proofs.TargetLaws.{target-within, target-apart, hops-fit}
 use Rattle.router.specs.declared.moving.Moved.{Moved}
-use Rattle.router.proofs.NamedLaws.{Named, named-good}
-use Rattle.router.proofs.VerdictLaws.{granted, verdict-refused, verdict-out, verdict-on, target-within, target-apart, hops-fit}
+use Rattle.router.proofs.MovedByVerdict.{verdict-refused, verdict-out, verdict-on}
 use Rattle.router.proofs.moving.move_in_table.Statement.{statement}
 use Rattle.router.proofs.moving.move_in_table.Tie as tie
 
@@ -18,14 +20,14 @@ use Rattle.router.proofs.moving.move_in_table.Tie as tie
 named : (c : tie.Else1)
     → Named (c .before .before .before .before .before .args .h) (c .before .before .before .before .before .args .t .now)
     (c .before .before .before .before .before .args .slot)
-named c = granted _ _ _ _ _ (c .before .judge .ensures) (c .if1 .left) .named
+named c = granted _ _ _ _ _ (c .before .judge-move .ensures) (c .if1 .left) .named
 
-target : (c : tie.Else1) → c .before .judge .result .leaves ≡ false
-    → c .before .judge .result .slot < layoutOf (c .before .before .before .before .before .args .h .board) .size
-target c l = target-within _ _ _ _ _ (c .before .judge .ensures) (c .if1 .left) (c .before .before .before .before .before .pre .board) l
+target : (c : tie.Else1) → c .before .judge-move .result .leaves ≡ false
+    → c .before .judge-move .result .slot < layoutOf (c .before .before .before .before .before .args .h .board) .size
+target c l = target-within _ _ _ _ _ (c .before .judge-move .ensures) (c .if1 .left) (c .before .before .before .before .before .pre .board) l
 
-judge-requires : tie.Need-judge-requires
-judge-requires c κs = search needs
+judge-move-requires : tie.Need-judge-move-requires
+judge-move-requires c κs = search needs
 
 refused-requires : tie.Need-refused-requires
 refused-requires c κs = search needs
@@ -38,7 +40,7 @@ returns c =
     let v = c .before .before in
     let a = v .before .before .before .before .args in
     ap (λ (m : Moved). outcome m (a .t .now)) (c .refused .ensures)
-    ∙ sym (verdict-refused (a .h) (a .t .now) (a .slot) (a .code) _ (v .judge .ensures) (c .before .if1 .taken))
+    ∙ sym (verdict-refused (a .h) (a .t .now) (a .slot) (a .code) _ (v .judge-move .ensures) (c .before .if1 .taken))
 
 hand-out-requires : tie.Need-hand-out-requires
 hand-out-requires c κs =
@@ -55,12 +57,12 @@ returns-2 c =
     let v = k .before .before in
     let a = v .before .before .before .before .args in
     c .before .before .hand-out .ensures
-    ∙ sym (verdict-out (a .h) (a .t .now) (a .slot) (a .code) _ (v .judge .ensures) (k .before .if1 .left) (k .if2 .taken))
+    ∙ sym (verdict-out (a .h) (a .t .now) (a .slot) (a .code) _ (v .judge-move .ensures) (k .before .if1 .left) (k .if2 .taken))
 
 carry-requires : tie.Need-carry-requires
 carry-requires c κs =
     let k = c .before .before in
-    let v = k .before .judge in
+    let v = k .before .judge-move in
     let stays = c .before .if2 .left in
     let s = k .before .before .before .before .before in (
       slot-fits (s .pre) _ (named k .inside),
@@ -88,13 +90,13 @@ returns-3 c =
     let v = k .before .before in
     let a = v .before .before .before .before .args in
     ap (outcome _) (c .before .before .carry .ensures)
-    ∙ sym (verdict-on (a .h) (a .t .now) (a .slot) (a .code) _ (v .judge .ensures) (k .before .if1 .left) (k .if2 .left))
+    ∙ sym (verdict-on (a .h) (a .t .now) (a .slot) (a .code) _ (v .judge-move .ensures) (k .before .if1 .left) (k .if2 .left))
 
 pub move-in-table-spec : {M : Type 1} → statement M
 move-in-table-spec =
     tie.close
     (tie.spec
-    judge-requires
+    judge-move-requires
     refused-requires
     same-length
     returns

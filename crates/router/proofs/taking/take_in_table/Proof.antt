@@ -14,11 +14,13 @@ use Rattle.board.proofs.BoardLaws.{slots-most, slot-fits}
 use Rattle.trailer.specs.declared.Head.{Head}
 use Rattle.trailer.specs.Trailer.{withTaken}
 use Rattle.table.specs.Calls.{outcome}
+use Rattle.judging.specs.declared.verdict.Verdict.{Verdict}
+use Rattle.judging.specs.Takings.{waitingEmpties}
+use Rattle.judging.specs.Verdicts.{into, takeVerdict}
+use Rattle.judging.proofs.WelcomeLaws.{Welcome, takeDue, due-welcome, berth, berth-within, take-number, take-done}
 use Rattle.router.specs.declared.taking.Taken.{Taken}
-use Rattle.router.specs.declared.verdict.Verdict.{Verdict}
-use Rattle.router.specs.TakeIn.{refusal, waitingEmpties, newRecord, tookIn, takenIn}
-use Rattle.router.specs.Verdicts.{into, takeVerdict}
-use Rattle.router.proofs.TakeLaws.{Welcome, takeDue, due-welcome, berth, berth-within, taken-refused, taken-done, take-number, take-done}
+use Rattle.router.specs.TakeIn.{refusal, newRecord, tookIn, takenIn}
+use Rattle.router.proofs.TakeLaws.{taken-refused, taken-done}
 use Rattle.router.proofs.taking.take_in_table.Statement.{statement}
 use Rattle.router.proofs.taking.take_in_table.Tie as tie
 

@@ -10,8 +10,8 @@ use Rattle.network.proofs.SearchLaws.{lowest-step}
 use Rattle.network.proofs.Tests.{cond-true, cond-false}
 use Rattle.board.specs.Board.{netOf}
 use Rattle.board.proofs.BoardLaws.{last-byte}
-use Rattle.router.specs.declared.verdict.Verdict.{Verdict}
-use Rattle.router.proofs.VerdictLaws.{verdict-number}
+use Rattle.judging.specs.declared.verdict.Verdict.{Verdict}
+use Rattle.judging.proofs.VerdictLaws.{verdict-number}
 use Rattle.survey.specs.Find.{accepts, firstCode}
 use Rattle.survey.proofs.finding.first_code.Statement.{statement}
 use Rattle.survey.proofs.finding.first_code.Tie as tie
@@ -35,8 +35,8 @@ loop-holds c =
     let e : suc last ≡ c .last-code .result + 1 - 0 = omega (arith, c .last-code .ensures) in
     (omega arith, ap (lowestWith _ 0) e)
 
-judge-requires : tie.Need-judge-requires Inv-loop μ-loop
-judge-requires c κs = c .before .before .before .before .before .pre
+judge-move-requires : tie.Need-judge-move-requires Inv-loop μ-loop
+judge-move-requires c κs = c .before .before .before .before .before .pre
 
 cast-t11 : tie.Need-cast-t11 Inv-loop μ-loop
 cast-t11 c = search needs
@@ -45,7 +45,7 @@ returns : tie.Need-returns Inv-loop μ-loop
 returns c =
     let at = c .before .before .before .loop in
     let a = c .before .before .before .before .before .before .before .args in
-    let e = sym (ap (λ (v : Verdict). v .number) (c .before .judge .ensures) ∙ verdict-number (a .h) (a .t .now) (a .slot) (at .code)) ∙ c .if1 .taken in
+    let e = sym (ap (λ (v : Verdict). v .number) (c .before .judge-move .ensures) ∙ verdict-number (a .h) (a .t .now) (a .slot) (at .code)) ∙ c .if1 .taken in
     sym (at .inv .1 ∙ lowest-step _ (at .code) _ (c .before .before .loop-test .taken) ∙ cond-true _ _ (eq-eqb _ 0 e))
 
 add-code : tie.Need-add-code Inv-loop μ-loop
@@ -60,7 +60,7 @@ loop-again : tie.Need-loop-again Inv-loop μ-loop
 loop-again c =
     let at = c .before .before .before .loop in
     let a = c .before .before .before .before .before .before .before .args in
-    let e = ap (λ (v : Verdict). v .number) (c .before .judge .ensures) ∙ verdict-number (a .h) (a .t .now) (a .slot) (at .code) in
+    let e = ap (λ (v : Verdict). v .number) (c .before .judge-move .ensures) ∙ verdict-number (a .h) (a .t .now) (a .slot) (at .code) in
     (omega arith, at .inv .1 ∙ lowest-step _ (at .code) _ (c .before .before .loop-test .taken) ∙ cond-false _ _ (ne-eqb _ 0 (λ q. c .if1 .left (e ∙ q))))
 
 returns-2 : tie.Need-returns-2 Inv-loop μ-loop
@@ -78,7 +78,7 @@ first-code-spec =
     last-code-requires
     add-end
     loop-holds
-    judge-requires
+    judge-move-requires
     cast-t11
     returns
     add-code

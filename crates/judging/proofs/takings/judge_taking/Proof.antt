@@ -1,4 +1,4 @@
--- `router::taking::judge_taking` meets its contract: each way out is a row of the refusals, and past them the room found decides.
+-- `judging::takings::judge_taking` meets its contract: each way out is a row of the refusals, and past them the room found decides.
 -- Assumes nothing.
 use mathlib.Core.Path.{_≡_, refl, sym, ap, _∙_}
 use mathlib.Core.Bool.{true, not}
@@ -7,9 +7,9 @@ use borrow.Author.Needs.{needs}
 use Rattle.network.proofs.Tests.{cond-true, cond-false, not-held, not-failed}
 use Rattle.board.specs.Board.{netOf}
 use Rattle.table.proofs.QueueLaws.{room-counted}
-use Rattle.router.proofs.TakeLaws.{all-given-out, take-refuses, take-into}
-use Rattle.router.proofs.taking.judge_taking.Statement.{statement}
-use Rattle.router.proofs.taking.judge_taking.Tie as tie
+use Rattle.judging.proofs.WelcomeLaws.{all-given-out, take-refuses, take-into}
+use Rattle.judging.proofs.takings.judge_taking.Statement.{statement}
+use Rattle.judging.proofs.takings.judge_taking.Tie as tie
 
 -- past the first `if` the source is a node, and past the second the destination
 source-on : (c : tie.Else1) → netOf (c .before .before .before .before .args .h .board) .valid (c .before .before .before .before .args .source) ≡ true

@@ -1,10 +1,10 @@
--- `router::moving::go_ahead` meets its contract: each arm by the rule's answer.
+-- `judging::moves::go_ahead` meets its contract: each arm by the rule's answer.
 -- Assumes nothing.
 use borrow.Author.Needs.{needs}
 use Rattle.table.proofs.QueueLaws.{room-counted}
-use Rattle.router.specs.Verdicts.{ahead}
-use Rattle.router.proofs.moving.go_ahead.Statement.{statement}
-use Rattle.router.proofs.moving.go_ahead.Tie as tie
+use Rattle.judging.specs.Verdicts.{ahead}
+use Rattle.judging.proofs.moves.go_ahead.Statement.{statement}
+use Rattle.judging.proofs.moves.go_ahead.Tie as tie
 
 enum-known-lead : tie.Need-enum-known-lead
 enum-known-lead c = search needs

@@ -1,4 +1,4 @@
--- `router::verdict::slot_due` meets its contract: the tests of the code are the rows of the definition, in their order.
+-- `judging::named::slot_due` meets its contract: the tests of the code are the rows of the definition, in their order.
 -- Assumes nothing.
 use borrow.Author.Needs.{needs}
 use Prim.Native.Nat.{_<_}
@@ -8,10 +8,10 @@ use borrow.Author.Tests.{le-leb, lt-leb}
 use Rattle.network.proofs.Tests.{cond-true, cond-false, held, failed, not-failed}
 use Rattle.board.specs.Layout.{layoutOf}
 use Rattle.board.proofs.BoardLaws.{slot-fits}
-use Rattle.router.specs.Verdicts.{slotDue}
-use Rattle.router.proofs.NamedLaws.{named-due}
-use Rattle.router.proofs.verdict.slot_due.Statement.{statement}
-use Rattle.router.proofs.verdict.slot_due.Tie as tie
+use Rattle.judging.specs.Named.{slotDue}
+use Rattle.judging.proofs.NamedLaws.{named-due}
+use Rattle.judging.proofs.named.slot_due.Statement.{statement}
+use Rattle.judging.proofs.named.slot_due.Tie as tie
 
 -- past the first test the slot lies in the table
 inside : (c : tie.Else1) → c .before .before .before .before .args .slot < layoutOf (c .before .before .before .before .args .h .board) .size

@@ -1,4 +1,4 @@
--- `router::moving::judge` meets its contract: past the code and the slot, what the rule's answer comes to is the verdict.
+-- `judging::moves::judge_move` meets its contract: past the code and the slot, what the rule's answer comes to is the verdict.
 -- Assumes nothing.
 use borrow.Author.Needs.{needs}
 use mathlib.Core.Path.{_≡_, sym, ap, _∙_}
@@ -7,11 +7,11 @@ use native.Mathlib.Omega.{arith}
 use Rattle.network.proofs.Tests.{cond-true, held, not-failed}
 use Rattle.board.specs.Board.{netOf}
 use Rattle.board.proofs.BoardLaws.{slot-fits}
-use Rattle.router.specs.Move.{moveDue}
-use Rattle.router.proofs.NamedLaws.{Named, due-named, targets}
-use Rattle.router.proofs.VerdictLaws.{due-refuses, slot-refuses, slot-passes}
-use Rattle.router.proofs.moving.judge.Statement.{statement}
-use Rattle.router.proofs.moving.judge.Tie as tie
+use Rattle.judging.specs.Moves.{moveDue}
+use Rattle.judging.proofs.NamedLaws.{Named, due-named, targets}
+use Rattle.judging.proofs.VerdictLaws.{due-refuses, slot-refuses, slot-passes}
+use Rattle.judging.proofs.moves.judge_move.Statement.{statement}
+use Rattle.judging.proofs.moves.judge_move.Tie as tie
 
 -- past the first test the code is known, and past the second the slot holds a good packet
 known : (c : tie.Else1) → netOf (c .before .before .before .before .args .h .board) .known (c .before .before .before .before .args .code) ≡ true
@@ -69,8 +69,8 @@ returns-3 c =
     let a = p .before .before .before .before .before .before .before .args in
     cc (slot-passes (a .h) (a .t .now) (a .slot) (a .code) (known (p .before .before .before)) (named (p .before)))
 
-pub judge-spec : {M : Type 1} → statement M
-judge-spec =
+pub judge-move-spec : {M : Type 1} → statement M
+judge-move-spec =
     tie.close
     (tie.spec
     is-code-requires

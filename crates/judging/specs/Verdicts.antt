@@ -17,9 +17,9 @@ use Rattle.board.specs.Layout.{layoutOf}
 use Rattle.trailer.specs.declared.Head.{Head}
 use Rattle.table.specs.Refusals.{Row, firstDue, not-offered, no-room}
 use Rattle.table.specs.Queues.{roomAt, emptiesAt}
-use Rattle.router.specs.declared.verdict.Verdict.{Verdict}
-use Rattle.router.specs.TakeIn.{takeRows}
-use Rattle.router.specs.Move.{slotRows, moveRows, leadOf}
+use Rattle.judging.specs.declared.verdict.Verdict.{Verdict}
+use Rattle.judging.specs.Moves.{leadOf, moveRows}
+use Rattle.judging.specs.Takings.{takeRows}
 
 abbrev pub refusedBy : ℕ → Verdict
 refusedBy number = record { number = number; leaves = false; slot = 0; hops = 0; left = 0 }
@@ -41,9 +41,6 @@ ahead b t here (Hop n) = intoQueue b t (at n (here .kind)) 1
 ahead b t here (Turn k) = intoQueue b t (at (here .node) k) 0
 ahead b t here Out = out
 ahead b t here NotOffered = refusedBy not-offered
-
-unfoldable pub slotDue : Head → List ℕ → ℕ → ℕ
-slotDue h t k = firstDue (slotRows h t k)
 
 abbrev pub judged : List Row → Verdict → Verdict
 judged rows v = cond (eqb (firstDue rows) 0) v (refusedBy (firstDue rows))

@@ -1,11 +1,11 @@
--- `router::verdict::go_into` meets its contract: each arm by the room found, and a slot that is found is counted.
+-- `judging::verdict::go_into` meets its contract: each arm by the room found, and a slot that is found is counted.
 -- Assumes nothing.
 use mathlib.Core.Path.{sym, ap, _∙_}
 use borrow.Author.Needs.{needs}
 use borrow.Author.Tests.{ltb-true}
 use Rattle.network.specs.Search.{isAt}
-use Rattle.router.proofs.verdict.go_into.Statement.{statement}
-use Rattle.router.proofs.verdict.go_into.Tie as tie
+use Rattle.judging.proofs.verdict.go_into.Statement.{statement}
+use Rattle.judging.proofs.verdict.go_into.Tie as tie
 
 enum-known-lowest : tie.Need-enum-known-lowest
 enum-known-lowest c = search needs

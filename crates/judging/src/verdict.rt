@@ -1,12 +1,10 @@
 // What a call that changes a table would do, judged before anything is written.
 use network::Lowest;
 use table::queues::QueueRoom;
-use trailer::Head;
 ghost use mathlib.Core.Path.{_≡_};
 ghost use lib.Dec.{ltb};
 ghost use Rattle.network.specs.Search.{isAt};
-ghost use Rattle.board.specs.Layout.{Sized};
-ghost use Rattle.router.specs.Verdicts.{refusedBy, into, slotDue};
+ghost use Rattle.judging.specs.Verdicts.{refusedBy, into};
 
 // The number of the first refusal that is due, or 0 and what is done: the packet leaves, or goes to a slot with more hops, where so many slots of
 // the queue are left empty.
@@ -46,22 +44,4 @@ pub fn go_into(room: QueueRoom, hops: u8) -> Verdict
         hops,
         left: room.empty - 1,
     }
-}
-
-// Refusals 2, 3 and 4 of a named slot, or 0.
-pub fn slot_due(t: &[u8], h: Head, slot: usize) -> u32
-    requires { ⌜ Sized (h .board) (now t) ⌝ }
-    ensures { λ r. ⌜ r ≡ slotDue h (now (t .entry)) slot ⌝ }
-{
-    let b = h.board;
-    if board::layout::slots_of(b) <= slot {
-        return table::refusals::OUT_OF_RANGE;
-    }
-    if slots::slot_empty(t, slot) {
-        return table::refusals::EMPTY;
-    }
-    if !table::packets::good_at(t, h, slot) {
-        return table::refusals::SPOILED;
-    }
-    0
 }

@@ -19,8 +19,9 @@ use Rattle.table.specs.Packets.{itemIn, goodAt}
 use Rattle.table.specs.Queues.{emptyAt}
 use Rattle.table.proofs.RefusalLaws.{passed}
 use Rattle.table.proofs.PacketLaws.{good-here}
-use Rattle.router.specs.Move.{slotRows, leadOf}
-use Rattle.router.specs.Verdicts.{slotDue, Targets}
+use Rattle.judging.specs.Named.{slotRows, slotDue}
+use Rattle.judging.specs.Moves.{leadOf}
+use Rattle.judging.specs.Verdicts.{Targets}
 
 pub record Named (h : Head) (t : List ℕ) (k : ℕ) : Type 0 where
   pub inside : k < layoutOf (h .board) .size

@@ -1,0 +1,4 @@
+pub mod Named
+pub mod Moves
+pub mod Takings
+pub mod Verdicts
