@@ -20,7 +20,7 @@ static ucontext_t here, there;
 
 static void run_nothing(void) {}
 
-static void run_clear(void) { paneglove_clear(table, TABLE, 16, 16, 7); }
+static void run_clear(void) { paneglove_clear(table, TABLE, 16, 16, 7, PANEGLOVE_PROFILE_FULL); }
 
 static void run_take_in(void) {
     paneglove_payload payload = {{1, 2, 3, 4, 5, 6, 7, 8}};

@@ -1,6 +1,6 @@
 /*
- * A repair counter's use of Paneglove: clear a 4 by 4 board, take packets in, list the table, show it to outsiders, follow find until nothing is
- * held, and list it again.
+ * A repair counter's use of Paneglove, once for each profile: clear a 4 by 4 board, take packets in, list the table, show it to outsiders, follow
+ * find until nothing is held, and list it again.
  * It prints each answer and exits 1 if anything is not as promised.
  *
  *     rt staticlib paneglove
@@ -36,6 +36,21 @@ static const struct trip trips[] = {
 };
 
 #define TRIPS (sizeof trips / sizeof trips[0])
+
+/* A profile, and the head lines of its board's listing before and after the trips. */
+struct board {
+    uint32_t profile;
+    const char *before;
+    const char *after;
+};
+
+static const struct board boards[] = {
+    {PANEGLOVE_PROFILE_FULL, "grid 4 4 depth 2 taken 5 delivered 0\n", "grid 4 4 depth 2 taken 5 delivered 5\n"},
+    {PANEGLOVE_PROFILE_ADAPT, "grid 4 4 depth 2 taken 5 delivered 0 profile 1\n", "grid 4 4 depth 2 taken 5 delivered 5 profile 1\n"},
+    {PANEGLOVE_PROFILE_OBLIVIOUS, "grid 4 4 depth 2 taken 5 delivered 0 profile 2\n", "grid 4 4 depth 2 taken 5 delivered 5 profile 2\n"},
+};
+
+#define BOARDS (sizeof boards / sizeof boards[0])
 
 static uint8_t slice[LENGTH];
 static uint8_t earlier[LENGTH];
@@ -88,6 +103,21 @@ static uint32_t empty_in_queue_of(uint32_t slot) {
 
 static unsigned distance(uint8_t a, uint8_t b) {
     return (unsigned)(abs(a % 16 - b % 16) + abs(a / 16 - b / 16));
+}
+
+static uint32_t clear(uint32_t profile) {
+    uint32_t number = paneglove_clear(slice, LENGTH, WIDTH, HEIGHT, DEPTH, profile);
+    printf("clear: %" PRIu32 "\n", number);
+    return number;
+}
+
+static void clear_board(uint32_t profile) {
+    memset(slice, 238, LENGTH);
+    remember();
+    expect(clear(PANEGLOVE_PROFILE_OBLIVIOUS + 1) == PANEGLOVE_SIZES, "there is no profile 3");
+    expect(unchanged(), "a refused clear changes no byte");
+    expect(clear(profile) == PANEGLOVE_ACCEPTED, "a 4 by 4 board is cleared");
+    expect(slice[LENGTH - 13] == profile, "the trailer holds the profile");
 }
 
 static paneglove_payload payload_of(const char *text) {
@@ -202,6 +232,19 @@ static void refuse_moves(void) {
     expect(unchanged(), "a refusal changes no byte");
 }
 
+/* From (3,0) to (0,3) the hop to the left is one that only the full profile has. Answers how many moves were accepted. */
+static unsigned try_left(uint32_t profile) {
+    paneglove_moved a = make_move(3 * NODE_SLOTS, PANEGLOVE_ENTER);
+    expect(a.number == PANEGLOVE_ACCEPTED, "a waiting packet enters");
+    a = make_move(a.slot, PANEGLOVE_LEFT);
+    if (profile == PANEGLOVE_PROFILE_FULL) {
+        expect(a.number == PANEGLOVE_ACCEPTED, "a hop that the profile has is made");
+        return 2;
+    }
+    expect(refused_by(PANEGLOVE_NOT_OFFERED, a), "a hop that the profile doesn't have is refused");
+    return 1;
+}
+
 /* A packet handed out is one of the trips, by its serial; it has been delivered once, after as many hops as its distance. */
 static void receive(const uint8_t *packet, int *delivered) {
     const struct trip *trip;
@@ -218,9 +261,10 @@ static void receive(const uint8_t *packet, int *delivered) {
     expect(memcmp(packet + 8, trip->payload, 8) == 0, "a packet keeps its payload");
 }
 
-static void follow_find(void) {
+/* After so many moves since the packets were taken in. */
+static void follow_find(unsigned moves) {
     int delivered[TRIPS] = {0};
-    unsigned most = 0, moves = 0;
+    unsigned most = 0;
     size_t i;
     for (i = 0; i < TRIPS; i++) {
         most += 3 + distance(trips[i].source, trips[i].destination);
@@ -261,24 +305,27 @@ static uint32_t check(const uint8_t *bytes, size_t length) {
     return a.number;
 }
 
-int main(void) {
-    uint32_t number;
-    memset(slice, 238, LENGTH);
-    number = paneglove_clear(slice, LENGTH, WIDTH, HEIGHT, DEPTH);
-    printf("clear: %" PRIu32 "\n", number);
-    expect(number == PANEGLOVE_ACCEPTED, "a 4 by 4 board is cleared");
+static void use(const struct board *board) {
+    clear_board(board->profile);
     take_in_all();
     expect(check(slice, LENGTH) == PANEGLOVE_ACCEPTED, "the table passes the full check");
     read_payloads();
-    list_table("grid 4 4 depth 2 taken 5 delivered 0\n", TRIPS);
+    list_table(board->before, TRIPS);
     show_outsiders();
     refuse_moves();
-    follow_find();
-    list_table("grid 4 4 depth 2 taken 5 delivered 5\n", 0);
+    follow_find(try_left(board->profile));
+    list_table(board->after, 0);
     expect(check(slice, LENGTH) == PANEGLOVE_ACCEPTED, "the table still passes");
-    expect(check(NULL, 0) == PANEGLOVE_TRAILER, "no bytes have no trailer");
     expect(all_zero(slice + BEFORE, 16 * SLOTS), "a slot left by a packet is 16 zeros");
     memset(earlier, 238, BEFORE);
     expect(memcmp(slice, earlier, BEFORE) == 0, "bytes before the table are not written");
+}
+
+int main(void) {
+    size_t i;
+    for (i = 0; i < BOARDS; i++) {
+        use(&boards[i]);
+    }
+    expect(check(NULL, 0) == PANEGLOVE_TRAILER, "no bytes have no trailer");
     return broken;
 }

@@ -31,7 +31,7 @@ enum {
     PANEGLOVE_NOT_OFFERED = 5,  /* the rule doesn't offer the move */
     PANEGLOVE_NO_ROOM = 6,      /* the target queue, or the source's waiting slot, has no empty slot */
     PANEGLOVE_ALL_TAKEN = 7,    /* 4,294,967,295 packets have been taken in */
-    PANEGLOVE_SIZES = 8,        /* width, height or depth is not accepted */
+    PANEGLOVE_SIZES = 8,        /* width, height, depth or profile is not accepted */
     PANEGLOVE_BUFFER = 9,       /* a buffer of the wrong length */
     PANEGLOVE_FAULT = 10,       /* the full check failed; the place is named */
     PANEGLOVE_NOTHING_HELD = 11 /* no slot is held */
@@ -46,6 +46,13 @@ enum {
     PANEGLOVE_DOWN = 5,  /* y - 1 */
     PANEGLOVE_CHANGE = 6,
     PANEGLOVE_DELIVER = 7
+};
+
+/* A board's profile: which of the rule's moves it has. */
+enum {
+    PANEGLOVE_PROFILE_FULL = 0,     /* all of them */
+    PANEGLOVE_PROFILE_ADAPT = 1,    /* all but left and down in A */
+    PANEGLOVE_PROFILE_OBLIVIOUS = 2 /* one hop only: in A right, else up; in B left, else down; and in A no change at the destination */
 };
 
 /* A node as source or destination: x and y from 0 to 15. */
@@ -101,13 +108,13 @@ typedef struct paneglove_listed {
 } paneglove_listed;
 
 /* The buffer that a listing needs, whatever the slice. */
-#define PANEGLOVE_LISTING_ROOM 226627
+#define PANEGLOVE_LISTING_ROOM 226637
 
 /*
- * Makes the slice's last part a fresh table. Width and height are 1 to 16, depth 1 to 7, and depth 0 means 5.
- * Refuses by 8 (sizes), then 9 (the slice is shorter than the table). Answers nothing beside 0.
+ * Makes the slice's last part a fresh table. Width and height are 1 to 16, depth 1 to 7, and depth 0 means 5; the profile is 0 to 2.
+ * Refuses by 8 (sizes or profile), then 9 (the slice is shorter than the table). Answers nothing beside 0.
  */
-uint32_t paneglove_clear(uint8_t *slice, size_t length, uint32_t width, uint32_t height, uint32_t depth);
+uint32_t paneglove_clear(uint8_t *slice, size_t length, uint32_t width, uint32_t height, uint32_t depth, uint32_t profile);
 
 /*
  * Puts a packet into the waiting slot of its source.
@@ -118,7 +125,7 @@ uint32_t paneglove_clear(uint8_t *slice, size_t length, uint32_t width, uint32_t
 paneglove_taken paneglove_take_in(uint8_t *slice, size_t length, uint8_t source, uint8_t destination, paneglove_payload payload);
 
 /*
- * Makes the proposed move of the packet in a slot.
+ * Makes the proposed move of the packet in a slot, by the rule in the board's profile.
  * Refuses by 1 (trailer), 2 (no such slot, or no such code), 3 (the slot is empty), 4 (it is spoiled), 5 (the rule doesn't offer the move),
  * then 6 (the target queue has no empty slot). Answers beside 0 the packet's new slot, a packet of zeros, and how many slots of the target queue
  * are then empty; a delivery answers slot 0, the packet's 16 bytes, and how many slots are then empty in the queue that it left. A spoiled slot

@@ -3,18 +3,23 @@
 use crate::tables::{self, SIZE};
 use crate::timing::{race, Row};
 use crate::twin::calls;
+use paneglove::profile::{FULL, OBLIVIOUS};
 use paneglove::Moved;
 use std::hint::black_box;
 
 const CALLS: u32 = 20_000;
 
 pub fn rows() -> Vec<Row> {
-    vec![take_in(), hop()]
+    vec![
+        take_in(),
+        hop("move", FULL),
+        hop("move, profile 2", OBLIVIOUS),
+    ]
 }
 
 /// A fresh board takes a packet in, and its slot and its counts are put back.
 fn take_in() -> Row {
-    let fresh = tables::fresh();
+    let fresh = tables::fresh(FULL);
     let put_back = |t: &mut [u8]| {
         t[..16].fill(0);
         t[SIZE - 12..SIZE - 8].fill(0);
@@ -45,8 +50,8 @@ fn take_in() -> Row {
 }
 
 /// A packet in A hops right, and the two slots are put back.
-fn hop() -> Row {
-    let mut t = tables::fresh();
+fn hop(call: &'static str, profile: u32) -> Row {
+    let mut t = tables::fresh(profile);
     calls::take_in(&mut t, 0, 255, &[1; 8]);
     let from = calls::make_move(&mut t, 0, 1).slot;
     let (mut ours, mut theirs) = (t.clone(), t.clone());
@@ -64,7 +69,7 @@ fn hop() -> Row {
     put_back(&mut ours);
     put_back(&mut theirs);
     race(
-        "move",
+        call,
         CALLS,
         || {
             black_box(paneglove::make_move(&mut ours, from, 2)).expect("it is offered");

@@ -1,6 +1,7 @@
-//! Tables to measure on: 16 by 16 of depth 7, fresh, or with every slot held, or every fourth.
+//! Tables to measure on: 16 by 16 of depth 7, fresh, in any profile, or with every slot held, or every fourth.
 
 use crate::twin::{calls, layout};
+use paneglove::profile::FULL;
 
 pub const SIZE: usize = 61_456;
 
@@ -14,15 +15,15 @@ fn packet(node: u8, serial: u32) -> [u8; 16] {
 }
 
 /// The largest board, just cleared.
-pub fn fresh() -> Vec<u8> {
+pub fn fresh(profile: u32) -> Vec<u8> {
     let mut t = vec![0u8; SIZE];
-    assert_eq!(calls::clear(&mut t, 16, 16, 7), 0);
+    assert_eq!(calls::clear(&mut t, 16, 16, 7, profile), 0);
     t
 }
 
 /// The largest board with one slot in `every` held.
 pub fn board(every: usize) -> Vec<u8> {
-    let mut t = fresh();
+    let mut t = fresh(FULL);
     let h = layout::head(&t).expect("a fresh table has a good trailer");
     let mut taken = 0u32;
     for k in (0..h.slots()).step_by(every) {

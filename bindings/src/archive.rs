@@ -57,7 +57,14 @@ pub struct Listed {
 }
 
 extern "C" {
-    fn paneglove_clear(s: *mut u8, length: usize, width: u32, height: u32, depth: u32) -> u32;
+    fn paneglove_clear(
+        s: *mut u8,
+        length: usize,
+        width: u32,
+        height: u32,
+        depth: u32,
+        profile: u32,
+    ) -> u32;
     fn paneglove_take_in(
         s: *mut u8,
         length: usize,
@@ -78,8 +85,8 @@ extern "C" {
     fn paneglove_list(s: *const u8, length: usize, out: *mut u8, out_length: usize) -> Listed;
 }
 
-pub fn clear(s: &mut [u8], width: u32, height: u32, depth: u32) -> u32 {
-    unsafe { paneglove_clear(s.as_mut_ptr(), s.len(), width, height, depth) }
+pub fn clear(s: &mut [u8], width: u32, height: u32, depth: u32, profile: u32) -> u32 {
+    unsafe { paneglove_clear(s.as_mut_ptr(), s.len(), width, height, depth, profile) }
 }
 
 pub fn take_in(s: &mut [u8], source: u8, destination: u8, bytes: [u8; 8]) -> Taken {

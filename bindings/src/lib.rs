@@ -5,10 +5,10 @@
 //! written. Any bytes and any numbers get an answer, and a refused call changes no byte.
 //!
 //! ```
-//! use paneglove::{clear, find, make_move, node, take_in, Moved, Refusal};
+//! use paneglove::{clear, find, make_move, node, profile, take_in, Moved, Refusal};
 //!
 //! let mut board = [0; 1296];
-//! clear(&mut board, 4, 4, 2)?;
+//! clear(&mut board, 4, 4, 2, profile::FULL)?;
 //! take_in(&mut board, node(0, 0), node(3, 3), *b"payload!")?;
 //! loop {
 //!     match find(&board) {
@@ -35,8 +35,18 @@ pub use refusal::Refusal;
 /// The code of delivery, the one move that hands its packet out.
 pub const DELIVER: u32 = 7;
 
+/// A board's profile: which of the rule's moves it has.
+pub mod profile {
+    /// All of them.
+    pub const FULL: u32 = 0;
+    /// All but codes 3 and 5 in A.
+    pub const ADAPT: u32 = 1;
+    /// One hop only: in A code 2, else 4; in B code 3, else 5; and in A no change at the destination.
+    pub const OBLIVIOUS: u32 = 2;
+}
+
 /// The buffer that a listing needs, whatever the slice.
-pub const LISTING_ROOM: usize = 226_627;
+pub const LISTING_ROOM: usize = 226_637;
 
 /// A packet taken in: its slot, its serial, and how many slots of its queue are now empty, which is 0: a waiting queue has one slot.
 #[derive(Clone, Copy, Debug, PartialEq, Eq)]
@@ -79,9 +89,16 @@ fn accepted<T>(number: u32, place: u32, answer: T) -> Result<T, Refusal> {
     }
 }
 
-/// Makes the slice's last part a fresh table; depth 0 means 5. Refused by `Sizes`, then `Buffer` where the slice is shorter than the table.
-pub fn clear(slice: &mut [u8], width: u32, height: u32, depth: u32) -> Result<(), Refusal> {
-    accepted(archive::clear(slice, width, height, depth), 0, ())
+/// Makes the slice's last part a fresh table of that [`profile`]; depth 0 means 5. Refused by `Sizes`, for a profile above 2 as well, then
+/// `Buffer` where the slice is shorter than the table.
+pub fn clear(
+    slice: &mut [u8],
+    width: u32,
+    height: u32,
+    depth: u32,
+    profile: u32,
+) -> Result<(), Refusal> {
+    accepted(archive::clear(slice, width, height, depth, profile), 0, ())
 }
 
 /// Puts a packet into the waiting slot of its source. Refused by `Trailer`, `OutOfRange`, `AllTaken`, then `NoRoom`.
@@ -103,7 +120,7 @@ pub fn take_in(
     )
 }
 
-/// Makes the proposed move. Refused by `Trailer`, `OutOfRange`, `Empty`, `Spoiled`, `NotOffered`, then `NoRoom`.
+/// Makes the proposed move, by the rule in the board's profile. Refused by `Trailer`, `OutOfRange`, `Empty`, `Spoiled`, `NotOffered`, then `NoRoom`.
 pub fn make_move(slice: &mut [u8], slot: u32, code: u32) -> Result<Moved, Refusal> {
     let a = archive::make_move(slice, slot, code);
     let done = if code == DELIVER {

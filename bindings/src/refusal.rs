@@ -51,7 +51,7 @@ refusals! {
     5 NotOffered "the rule doesn't offer the move";
     6 NoRoom "the queue has no empty slot";
     7 AllTaken "all serials are given out";
-    8 Sizes "width, height or depth is not accepted";
+    8 Sizes "width, height, depth or profile is not accepted";
     9 Buffer "the buffer has the wrong length";
     10 Fault { place } "the full check failed";
     11 NothingHeld "no slot is held";

@@ -1,4 +1,5 @@
 //! The archive's calls through the wrapper: each refusal, and a board driven until nothing is held.
+use paneglove::profile::{ADAPT, FULL, OBLIVIOUS};
 use paneglove::{
     clear, copy_outward, find, full_check, list, make_move, node, read_payload, take_in, Found,
     Moved, Refusal, Taken, DELIVER, LISTING_ROOM,
@@ -10,8 +11,12 @@ const BEFORE: usize = 3;
 
 /// A 4 by 4 board of depth 2 with bytes before its table, and three packets in it.
 fn board() -> Vec<u8> {
+    board_of(FULL)
+}
+
+fn board_of(profile: u32) -> Vec<u8> {
     let mut s = vec![238; BEFORE + TABLE];
-    clear(&mut s, 4, 4, 2).unwrap();
+    clear(&mut s, 4, 4, 2, profile).unwrap();
     let trips = [
         (node(0, 0), node(3, 3), 0),
         (node(3, 3), node(0, 0), 75),
@@ -49,18 +54,21 @@ fn left_by_delivery(s: &mut [u8], slot: u32) -> u32 {
 
 #[test]
 fn sizes_of_document_01() {
-    assert_eq!(clear(&mut [0; 447], 3, 3, 1), Err(Refusal::Buffer));
-    assert_eq!(clear(&mut [0; 448], 3, 3, 1), Ok(()));
-    assert_eq!(clear(&mut vec![0; 61_456], 16, 16, 7), Ok(()));
-    assert_eq!(clear(&mut vec![0; 61_456], 16, 16, 8), Err(Refusal::Sizes));
-    assert_eq!(clear(&mut [0; 192], 1, 1, 0), Ok(()));
-    assert_eq!(clear(&mut [0; 191], 1, 1, 0), Err(Refusal::Buffer));
-    assert_eq!(clear(&mut [0; 192], 0, 1, 0), Err(Refusal::Sizes));
+    let cleared = |length, [width, height, depth]: [u32; 3]| {
+        clear(&mut vec![0; length], width, height, depth, FULL)
+    };
+    assert_eq!(cleared(447, [3, 3, 1]), Err(Refusal::Buffer));
+    assert_eq!(cleared(448, [3, 3, 1]), Ok(()));
+    assert_eq!(cleared(61_456, [16, 16, 7]), Ok(()));
+    assert_eq!(cleared(61_456, [16, 16, 8]), Err(Refusal::Sizes));
+    assert_eq!(cleared(192, [1, 1, 0]), Ok(()));
+    assert_eq!(cleared(191, [1, 1, 0]), Err(Refusal::Buffer));
+    assert_eq!(cleared(192, [0, 1, 0]), Err(Refusal::Sizes));
 }
 
 #[test]
 fn an_empty_slice_is_answered() {
-    assert_eq!(clear(&mut [], 1, 1, 1), Err(Refusal::Buffer));
+    assert_eq!(clear(&mut [], 1, 1, 1, FULL), Err(Refusal::Buffer));
     assert_eq!(take_in(&mut [], 0, 0, [0; 8]), Err(Refusal::Trailer));
     assert_eq!(make_move(&mut [], 0, DELIVER), Err(Refusal::Trailer));
     assert_eq!(read_payload(&[], 0), Err(Refusal::Trailer));
@@ -84,14 +92,15 @@ fn refusals_change_nothing() {
     assert_eq!(make_move(&mut s, 0, DELIVER), Err(Refusal::NotOffered));
     assert_eq!(read_payload(&s, 80), Err(Refusal::OutOfRange));
     assert_eq!(read_payload(&s, 1), Err(Refusal::Empty));
-    assert_eq!(clear(&mut s, 17, 4, 2), Err(Refusal::Sizes));
+    assert_eq!(clear(&mut s, 17, 4, 2, FULL), Err(Refusal::Sizes));
+    assert_eq!(clear(&mut s, 4, 4, 2, 3), Err(Refusal::Sizes));
     assert_eq!(s, before);
 }
 
 #[test]
 fn no_serial_is_left() {
     let mut s = [0; 64];
-    clear(&mut s, 1, 1, 1).unwrap();
+    clear(&mut s, 1, 1, 1, FULL).unwrap();
     s[52..60].fill(255);
     assert_eq!(take_in(&mut s, 0, 0, [0; 8]), Err(Refusal::AllTaken));
 }
@@ -137,7 +146,12 @@ fn payloads_are_read_and_never_shown() {
 
 #[test]
 fn following_find_delivers_every_packet() {
-    let mut s = board();
+    for profile in [FULL, ADAPT, OBLIVIOUS] {
+        follow_find(board_of(profile));
+    }
+}
+
+fn follow_find(mut s: Vec<u8>) {
     let mut delivered = Vec::new();
     let mut moves = 0;
     assert_eq!(find(&s), Ok(Found { slot: 0, code: 1 }));
@@ -192,7 +206,7 @@ fn following_find_delivers_every_packet() {
 #[test]
 fn a_full_queue_refuses() {
     let mut s = [0; 112];
-    clear(&mut s, 2, 1, 1).unwrap();
+    clear(&mut s, 2, 1, 1, FULL).unwrap();
     take_in(&mut s, node(0, 0), node(1, 0), [1; 8]).unwrap();
     assert_eq!(make_move(&mut s, 0, 1), Ok(Moved::To { slot: 1, left: 0 }));
     assert_eq!(make_move(&mut s, 1, 2), Ok(Moved::To { slot: 4, left: 0 }));
@@ -204,7 +218,7 @@ fn a_full_queue_refuses() {
 #[test]
 fn moves_tell_how_many_slots_are_left() {
     let mut s = [0; 256];
-    clear(&mut s, 1, 1, 7).unwrap();
+    clear(&mut s, 1, 1, 7, FULL).unwrap();
     for (slot, left) in (8..).zip([6, 5, 4, 3]) {
         take_in(&mut s, 0, 0, [1; 8]).unwrap();
         assert_eq!(make_move(&mut s, 0, 1), Ok(Moved::To { slot, left }));
@@ -224,7 +238,7 @@ fn moves_tell_how_many_slots_are_left() {
 fn the_listing_of_document_01() {
     let mut s = vec![0; 112];
     let mut out = vec![7; LISTING_ROOM + 1];
-    clear(&mut s, 2, 1, 1).unwrap();
+    clear(&mut s, 2, 1, 1, FULL).unwrap();
     take_in(&mut s, node(0, 0), node(1, 0), [9; 8]).unwrap();
     let expected: &[u8] =
         b"grid 2 1 depth 1 taken 1 delivered 0\n0 W 0,0 from 0,0 to 1,0 hops 0 serial 0\nheld 1\n";
@@ -232,4 +246,60 @@ fn the_listing_of_document_01() {
     assert!(out[expected.len()..].iter().all(|&b| b == 7));
     assert_eq!(list(&s, &mut out[..LISTING_ROOM - 1]), Err(Refusal::Buffer));
     assert_eq!(list(&[], &mut out), Ok(&b"refused 1\n"[..]));
+}
+
+#[test]
+fn the_trailer_holds_the_profile() {
+    for profile in [FULL, ADAPT, OBLIVIOUS] {
+        let mut s = [7; 64];
+        assert_eq!(clear(&mut s, 1, 1, 1, profile), Ok(()));
+        assert_eq!(u32::from(s[51]), profile);
+        assert_eq!(full_check(&s), Ok(()));
+    }
+    for profile in [3, 256, u32::MAX] {
+        let mut s = [7; 64];
+        assert_eq!(clear(&mut s, 1, 1, 1, profile), Err(Refusal::Sizes));
+        assert_eq!(clear(&mut s[1..], 1, 1, 1, profile), Err(Refusal::Sizes));
+        assert_eq!(s, [7; 64]);
+    }
+    let mut s = board();
+    s[BEFORE + 16 * SLOTS + 3] = 3;
+    assert_eq!(full_check(&s), Err(Refusal::Trailer));
+    assert_eq!(make_move(&mut s, 0, 1), Err(Refusal::Trailer));
+}
+
+/// The codes that a packet in A at its source is offered, each tried on a fresh 3 by 3 board.
+fn codes_in_a(profile: u32, source: u8, destination: u8) -> Vec<u32> {
+    let mut s = [0; 448];
+    clear(&mut s, 3, 3, 1, profile).unwrap();
+    let waiting = take_in(&mut s, source, destination, [1; 8]).unwrap();
+    let entered = make_move(&mut s, waiting.slot, 1);
+    let Ok(Moved::To { slot, .. }) = entered else {
+        panic!("not entered: {entered:?}");
+    };
+    let offered = |code: &u32| make_move(&mut s.clone(), slot, *code).is_ok();
+    (1..=7).filter(offered).collect()
+}
+
+#[test]
+fn each_profile_has_its_moves() {
+    for (profile, left_and_up, right_and_up) in [
+        (FULL, vec![3, 4], vec![2, 4]),
+        (ADAPT, vec![4], vec![2, 4]),
+        (OBLIVIOUS, vec![4], vec![2]),
+    ] {
+        assert_eq!(codes_in_a(profile, node(2, 0), node(0, 2)), left_and_up);
+        assert_eq!(codes_in_a(profile, node(0, 0), node(2, 2)), right_and_up);
+    }
+}
+
+#[test]
+fn the_head_line_ends_in_the_profile() {
+    let mut out = vec![0; LISTING_ROOM];
+    for (profile, words) in [(FULL, ""), (ADAPT, " profile 1"), (OBLIVIOUS, " profile 2")] {
+        let mut s = [0; 64];
+        clear(&mut s, 1, 1, 1, profile).unwrap();
+        let expected = format!("grid 1 1 depth 1 taken 0 delivered 0{words}\nheld 0\n");
+        assert_eq!(list(&s, &mut out), Ok(expected.as_bytes()));
+    }
 }

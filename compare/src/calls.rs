@@ -4,9 +4,9 @@ use crate::router::{self, Found, Moved, Refusal, TakenIn};
 use crate::script::Command;
 
 pub trait Calls {
-    fn clear(&self, slice: &mut [u8], sizes: [u32; 3]) -> Result<(), Refusal> {
-        let [width, height, depth] = sizes;
-        router::clear(slice, width, height, depth)
+    fn clear(&self, slice: &mut [u8], board: [u32; 4]) -> Result<(), Refusal> {
+        let [width, height, depth, profile] = board;
+        router::clear(slice, width, height, depth, profile)
     }
 
     fn take_in(&self, slice: &mut [u8], ends: [u8; 2], load: [u8; 8]) -> Result<TakenIn, Refusal> {

@@ -17,6 +17,7 @@ mod campaign;
 mod difference;
 mod make;
 mod mistakes;
+mod moves;
 mod other_side;
 mod router;
 mod script;

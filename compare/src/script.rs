@@ -16,6 +16,7 @@ pub enum Command {
         width: u32,
         height: u32,
         depth: u32,
+        profile: u32,
     },
     TakeIn {
         source: u8,
@@ -85,7 +86,8 @@ impl Command {
                 width,
                 height,
                 depth,
-            } => numbers(&[width, height, depth]),
+                profile,
+            } => numbers(&[width, height, depth, profile]),
             Command::Move { slot, code } => numbers(&[slot, code]),
             Command::Payload { slot } => numbers(&[slot]),
             Command::Set { place, byte } => {
@@ -123,6 +125,7 @@ impl Command {
                 width: number(&mut rest)?,
                 height: number(&mut rest)?,
                 depth: number(&mut rest)?,
+                profile: number(&mut rest)?,
             },
             b'T' => Command::TakeIn {
                 source: byte(&mut rest)?,
@@ -192,6 +195,14 @@ mod tests {
             fill: 0xEE,
         };
         assert_eq!(encoded(command), *b"O\0\x01\0\0\xEE");
+        let command = Command::Clear {
+            width: 4,
+            height: 3,
+            depth: 256,
+            profile: 2,
+        };
+        let numbers = b"\x04\0\0\0\x03\0\0\0\0\x01\0\0\x02\0\0\0";
+        assert_eq!(encoded(command), [&b"C"[..], numbers].concat());
     }
 
     #[test]
@@ -203,6 +214,7 @@ mod tests {
                 width: 3,
                 height: u32::MAX,
                 depth: 1,
+                profile: 2,
             },
             Command::TakeIn {
                 source: 1,

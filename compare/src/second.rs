@@ -2,7 +2,7 @@
 
 use crate::answer::Answer;
 use crate::calls::Calls;
-use crate::router::Refusal;
+use crate::router::{Profile, Refusal, Trailer};
 use crate::script::{Command, LENGTH_MOST, SCRIPT_MOST};
 
 /// The slice and the second buffer that a script's commands work on.
@@ -20,13 +20,14 @@ pub struct Line {
     pub given: Option<Given>,
 }
 
-/// A command carried out, the refusal it got, if it got one, and the slots left if it was an
-/// accepted move.
+/// A command carried out, the refusal it got, if it got one, the slots left if it was an accepted
+/// move, and the profile of the table that it left.
 #[derive(Clone, Copy)]
 pub struct Given {
     pub command: Command,
     pub refusal: Option<Refusal>,
     pub left_by_a_move: Option<usize>,
+    pub profile: Option<Profile>,
 }
 
 impl Memory {
@@ -46,7 +47,8 @@ impl Memory {
                 width,
                 height,
                 depth,
-            } => Answer::Clear(router.clear(slice, [width, height, depth])),
+                profile,
+            } => Answer::Clear(router.clear(slice, [width, height, depth, profile])),
             Command::TakeIn {
                 source,
                 destination,
@@ -64,6 +66,11 @@ impl Memory {
             Command::ShowSecond => Answer::Second(self.second.clone()),
         };
         Some(answer)
+    }
+
+    /// Nothing where the slice has no good trailer.
+    fn profile(&self) -> Option<Profile> {
+        Trailer::decode(&self.slice).map(|trailer| trailer.profile)
     }
 }
 
@@ -97,6 +104,7 @@ pub fn run(script: &[u8], router: &dyn Calls) -> Vec<Line> {
                 command,
                 refusal: answer.refusal(),
                 left_by_a_move: answer.left_by_a_move(),
+                profile: memory.profile(),
             };
             lines.push(Line {
                 index,
@@ -151,11 +159,12 @@ mod tests {
         width: 2,
         height: 1,
         depth: 1,
+        profile: 0,
     };
 
     #[test]
     fn without_a_slice_every_call_answers() {
-        let calls = b"C\x01\0\0\0\x01\0\0\0\x01\0\0\0T\0\0abcdefghP\0\0\0\0FNWD";
+        let calls = b"C\x01\0\0\0\x01\0\0\0\x01\0\0\0\0\0\0\0T\0\0abcdefghP\0\0\0\0FNWD";
         let expected = [
             "clear 9",
             "take 1 0 0 0",
@@ -211,6 +220,31 @@ mod tests {
     }
 
     #[test]
+    fn the_last_number_of_a_clear_is_the_profile() {
+        let clear = |profile| Command::Clear {
+            width: 1,
+            height: 1,
+            depth: 1,
+            profile,
+        };
+        let commands = [
+            Command::Lend { length: 64 },
+            clear(2),
+            Command::Show,
+            clear(3),
+            Command::Lend { length: 63 },
+            clear(2),
+            clear(3),
+        ];
+        let zeros = "00".repeat(48);
+        let shown = format!("bytes {zeros}01010102000000000000000040000000");
+        let expected = [
+            "slice 64", "clear 0", &shown, "clear 8", "slice 63", "clear 9", "clear 8",
+        ];
+        assert_eq!(texts(&script(&commands)), expected);
+    }
+
+    #[test]
     fn the_slots_left_end_the_line() {
         let take = Command::TakeIn {
             source: 0,
@@ -225,6 +259,7 @@ mod tests {
                 width: 1,
                 height: 1,
                 depth: 2,
+                profile: 0,
             },
             take,
             take,
@@ -275,6 +310,7 @@ mod tests {
             b"c",
             b"\n",
             b"M\0\0\0\0\x01\0\0",
+            b"C\x01\0\0\0\x01\0\0\0\x01\0\0\0",
             b"S\x04\0\0\0\x01",
             b"S\xFF\xFF\xFF\xFF\x01",
             b"L\x01\0\x01\0",

@@ -1,6 +1,7 @@
 //! How often each call gave each number, what was never given, and what never should have been.
 
-use crate::router::{CheckFault, Refusal, CODES};
+use crate::moves::Moves;
+use crate::router::{CheckFault, Refusal};
 use crate::script::Command;
 use crate::second::Given;
 use std::collections::BTreeMap;
@@ -27,7 +28,8 @@ const FAULTS: [&str; 3] = ["spoiled slot", "serial twice", "counts disagree"];
 pub struct Tally {
     /// By the call's letter and the number given.
     numbers: BTreeMap<(u8, u32), u64>,
-    accepted_codes: BTreeMap<u32, u64>,
+    accepted: Moves,
+    not_offered: Moves,
     left_by_moves: BTreeMap<usize, u64>,
     faults: [u64; FAULTS.len()],
 }
@@ -35,6 +37,12 @@ pub struct Tally {
 fn may_give(letter: u8, number: u32) -> bool {
     let mut rows = CALLS.iter();
     rows.any(|(call, _, can_give)| *call == letter && can_give.contains(&number))
+}
+
+fn add_move(moves: &mut Moves, given: &Given) {
+    if let (Command::Move { code, .. }, Some(profile)) = (given.command, given.profile) {
+        moves.add(profile, code);
+    }
 }
 
 impl Tally {
@@ -48,12 +56,11 @@ impl Tally {
         if let Some(left) = given.left_by_a_move {
             *self.left_by_moves.entry(left).or_default() += 1;
         }
-        match (given.command, given.refusal) {
-            (Command::Move { code, .. }, None) => {
-                *self.accepted_codes.entry(code).or_default() += 1;
-            }
-            (_, Some(Refusal::CheckFailed(fault))) => self.add_fault(fault),
-            _ => {}
+        match given.refusal {
+            None => add_move(&mut self.accepted, given),
+            Some(Refusal::NotOffered) => add_move(&mut self.not_offered, given),
+            Some(Refusal::CheckFailed(fault)) => self.add_fault(fault),
+            Some(_) => {}
         }
     }
 
@@ -73,10 +80,6 @@ impl Tally {
     fn count(&self, letter: u8, number: u32) -> u64 {
         let count = self.numbers.get(&(letter, number));
         count.copied().unwrap_or_default()
-    }
-
-    fn accepted(&self, code: u32) -> u64 {
-        self.accepted_codes.get(&code).copied().unwrap_or_default()
     }
 
     fn left(&self, slots: usize) -> u64 {
@@ -100,9 +103,8 @@ impl Tally {
                 }
             }
         }
-        for code in CODES.filter(|code| self.accepted(*code) == 0) {
-            untested.push(format!("no move of code {code} was accepted"));
-        }
+        untested.extend(self.accepted.untested("accepted"));
+        untested.extend(self.not_offered.untested("not offered"));
         for slots in LEFT.filter(|slots| self.left(*slots) == 0) {
             untested.push(format!("no move left {slots} slots empty"));
         }
@@ -120,8 +122,7 @@ impl Tally {
         let numbers = numbers.filter(|(letter, number)| !may_give(*letter, *number));
         let numbers =
             numbers.map(|(letter, number)| format!("{} was answered {number}", char::from(letter)));
-        let codes = self.accepted_codes.keys();
-        let codes = codes.filter(|code| !CODES.contains(code));
+        let codes = self.accepted.beyond_the_codes();
         let codes = codes.map(|code| format!("a move of code {code} was accepted"));
         let left = self.left_by_moves.keys();
         let left = left.filter(|slots| !LEFT.contains(slots));
@@ -137,11 +138,8 @@ impl Tally {
         for (letter, name, _) in CALLS {
             self.write_row(&mut text, *letter, name);
         }
-        let (first, last) = (CODES.start(), CODES.end());
-        let _ = write!(text, "\nmoves accepted by code {first} to {last}:");
-        for code in CODES {
-            let _ = write!(text, " {}", self.accepted(code));
-        }
+        text += &self.accepted.lines("accepted");
+        text += &self.not_offered.lines("not offered");
         let (least, most) = (LEFT.start(), LEFT.end());
         let _ = write!(text, "\nmoves that left {least} to {most} slots empty:");
         for slots in LEFT {
@@ -169,12 +167,14 @@ impl Tally {
 #[cfg(test)]
 mod tests {
     use super::*;
+    use crate::router::{Profile, CODES};
 
     fn given(command: Command, refusal: Option<Refusal>) -> Given {
         Given {
             command,
             refusal,
             left_by_a_move: None,
+            profile: Some(Profile::Adapt),
         }
     }
 
@@ -191,9 +191,17 @@ mod tests {
         tally.add(&given(Command::Find, Some(Refusal::NothingHeld)));
         tally.add(&moved(7, 2));
         tally.add(&given(Command::Show, None));
-        assert_eq!(tally.calls(), 2);
+        let up = Command::Move { slot: 0, code: 4 };
+        tally.add(&given(up, Some(Refusal::NotOffered)));
+        tally.add(&given(up, Some(Refusal::NoEmptySlot)));
+        assert_eq!(tally.calls(), 4);
         assert_eq!((tally.count(b'N', 11), tally.count(b'M', 0)), (1, 1));
-        assert_eq!((tally.accepted(6), tally.accepted(7)), (0, 1));
+        let accepted = |profile, code| tally.accepted.count(profile, code);
+        assert_eq!(accepted(Profile::Adapt, 6), 0);
+        assert_eq!(accepted(Profile::Adapt, 7), 1);
+        assert_eq!(accepted(Profile::Full, 7), 0);
+        assert_eq!(accepted(Profile::Adapt, 4), 0);
+        assert_eq!(tally.not_offered.count(Profile::Adapt, 4), 1);
         assert_eq!((tally.left(1), tally.left(2)), (0, 1));
         assert_eq!(tally.unlisted(), Vec::<String>::new());
     }
@@ -203,7 +211,7 @@ mod tests {
         let mut tally = Tally::default();
         let before = tally.untested();
         let numbers: usize = CALLS.iter().map(|(_, _, can_give)| can_give.len()).sum();
-        let told = CODES.count() + LEFT.count();
+        let told = 2 * Profile::ALL.len() * CODES.count() + LEFT.count();
         assert_eq!(before.len(), numbers + told + FAULTS.len());
         assert!(before.contains(&"take in never answered 7".to_string()));
         assert!(before.contains(&"no move left 0 slots empty".to_string()));
@@ -232,7 +240,7 @@ mod tests {
     fn the_table_has_a_row_a_call_and_a_column_a_number() {
         let tally = Tally::default();
         let table = tally.table();
-        assert_eq!(table.lines().count(), 1 + CALLS.len() + 2 + FAULTS.len());
+        assert_eq!(table.lines().count(), 1 + CALLS.len() + 7 + FAULTS.len());
         let words = |start: &str| -> Vec<String> {
             let row = table.lines().find(|line| line.starts_with(start));
             let words = row.unwrap_or_default().split_whitespace();

@@ -16,11 +16,11 @@ pub struct Moved {
     pub left: u32,
 }
 
-pub fn clear(s: &mut [u8], width: u32, height: u32, depth: u32) -> u32 {
+pub fn clear(s: &mut [u8], width: u32, height: u32, depth: u32, profile: u32) -> u32 {
     let depth = if depth == 0 { 5 } else { depth };
     let ranges =
         (1..=16).contains(&width) && (1..=16).contains(&height) && (1..=7).contains(&depth);
-    if !ranges {
+    if !ranges || profile > 2 {
         return 8;
     }
     let size = 16 * (width * height * (1 + 2 * depth)) as usize + 16;
@@ -33,6 +33,7 @@ pub fn clear(s: &mut [u8], width: u32, height: u32, depth: u32) -> u32 {
     z[0] = width as u8;
     z[1] = height as u8;
     z[2] = depth as u8;
+    z[3] = profile as u8;
     z[12..].copy_from_slice(&(size as u32).to_le_bytes());
     0
 }
@@ -89,20 +90,21 @@ pub enum Lead {
     To(Place, u8),
 }
 
-pub fn lead(p: Place, destination: u8, code: u32) -> Option<Lead> {
+pub fn lead(profile: u8, p: Place, destination: u8, code: u32) -> Option<Lead> {
     let (z, w) = layout::coordinates(destination);
     let (dx, dy) = (z - p.x, w - p.y);
+    let (dynamic, choice) = (profile == 0, profile < 2);
     let to = |kind| Some(Lead::To(Place { kind, ..p }, 0));
     let hop = |x, y| Some(Lead::To(Place { x, y, kind: p.kind }, 1));
     match (code, p.kind) {
         (1, Kind::Waiting) => to(if dx > 0 || dy > 0 { Kind::A } else { Kind::B }),
         (2, Kind::A) if dx > 0 => hop(p.x + 1, p.y),
-        (3, Kind::A) if dx < 0 && dy > 0 => hop(p.x - 1, p.y),
+        (3, Kind::A) if dynamic && dx < 0 && dy > 0 => hop(p.x - 1, p.y),
         (3, Kind::B) if dx < 0 => hop(p.x - 1, p.y),
-        (4, Kind::A) if dy > 0 => hop(p.x, p.y + 1),
-        (5, Kind::A) if dy < 0 && dx > 0 => hop(p.x, p.y - 1),
-        (5, Kind::B) if dy < 0 => hop(p.x, p.y - 1),
-        (6, Kind::A) if dx <= 0 && dy <= 0 => to(Kind::B),
+        (4, Kind::A) if dy > 0 && (choice || dx <= 0) => hop(p.x, p.y + 1),
+        (5, Kind::A) if dynamic && dy < 0 && dx > 0 => hop(p.x, p.y - 1),
+        (5, Kind::B) if dy < 0 && (choice || dx >= 0) => hop(p.x, p.y - 1),
+        (6, Kind::A) if dx <= 0 && dy <= 0 && (choice || dx < 0 || dy < 0) => to(Kind::B),
         (7, Kind::A | Kind::B) if dx == 0 && dy == 0 => Some(Lead::Out),
         _ => None,
     }
@@ -129,7 +131,7 @@ pub fn verdict(t: &[u8], h: &Head, slot: usize, code: u32) -> Result<Going, u32>
     if !layout::is_good(h, p, v) {
         return Err(4);
     }
-    match lead(p, v[2], code) {
+    match lead(h.profile, p, v[2], code) {
         None => Err(5),
         Some(Lead::Out) => Ok(Going { to: None, queue: p }),
         Some(Lead::To(queue, more)) => match layout::room(t, h, queue) {

@@ -5,6 +5,7 @@ pub struct Head {
     pub width: usize,
     pub height: usize,
     pub depth: usize,
+    pub profile: u8,
     pub taken: u32,
     pub delivered: u32,
     pub size: usize,
@@ -45,6 +46,7 @@ pub fn head(s: &[u8]) -> Option<Head> {
         width: z[0] as usize,
         height: z[1] as usize,
         depth: z[2] as usize,
+        profile: z[3],
         taken: number(z, 4),
         delivered: number(z, 8),
         size: number(z, 12) as usize,
@@ -52,7 +54,7 @@ pub fn head(s: &[u8]) -> Option<Head> {
     let ranges =
         (1..=16).contains(&h.width) && (1..=16).contains(&h.height) && (1..=7).contains(&h.depth);
     let fine = ranges
-        && z[3] == 0
+        && h.profile <= 2
         && h.delivered <= h.taken
         && h.size == 16 * h.slots() + 16
         && h.size <= s.len();

@@ -1,6 +1,6 @@
 //! The listing, into a buffer.
 
-use super::layout::{self, Kind};
+use super::layout::{self, Head, Kind};
 use super::survey::{self, Checked};
 
 struct Text<'a> {
@@ -47,6 +47,18 @@ fn letter(kind: Kind) -> &'static [u8] {
     }
 }
 
+fn head_line(text: &mut Text, h: &Head) {
+    text.word_decimal(b"grid ", h.width as u32);
+    text.word_decimal(b" ", h.height as u32);
+    text.word_decimal(b" depth ", h.depth as u32);
+    text.word_decimal(b" taken ", h.taken);
+    text.word_decimal(b" delivered ", h.delivered);
+    if h.profile > 0 {
+        text.word_decimal(b" profile ", h.profile.into());
+    }
+    text.words(b"\n");
+}
+
 /// What the listing program prints of `s`, at the start of `out`; answers its length.
 pub fn list(s: &[u8], out: &mut [u8]) -> usize {
     let mut text = Text { out, at: 0 };
@@ -61,12 +73,7 @@ pub fn list(s: &[u8], out: &mut [u8]) -> usize {
             return text.at;
         }
     };
-    text.word_decimal(b"grid ", h.width as u32);
-    text.word_decimal(b" ", h.height as u32);
-    text.word_decimal(b" depth ", h.depth as u32);
-    text.word_decimal(b" taken ", h.taken);
-    text.word_decimal(b" delivered ", h.delivered);
-    text.words(b"\n");
+    head_line(&mut text, &h);
     let t = &s[s.len() - h.size..];
     for k in 0..h.slots() {
         let v = layout::slot(t, k);

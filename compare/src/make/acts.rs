@@ -2,7 +2,7 @@
 
 use super::bench::Bench;
 use crate::answer::Answer;
-use crate::router::{offered, Found, Grid, Slot, CODES};
+use crate::router::{offered, Found, Grid, Profile, Slot, CODES};
 use crate::script::{Command, LENGTH_MOST};
 use std::ops::RangeInclusive;
 
@@ -56,6 +56,12 @@ pub fn codes_and_beyond() -> RangeInclusive<u32> {
 
 /// The codes that the rule offers the packet in the slot.
 pub fn codes_for(bench: &Bench, slot: u32) -> Vec<u32> {
+    let trailer = bench.trailer();
+    trailer.map_or_else(Vec::new, |trailer| codes_in(trailer.profile, bench, slot))
+}
+
+/// The codes that it would offer in the profile.
+fn codes_in(profile: Profile, bench: &Bench, slot: u32) -> Vec<u32> {
     let codes = || {
         let table = bench.table()?;
         let slot = usize::try_from(slot).ok()?;
@@ -63,7 +69,7 @@ pub fn codes_for(bench: &Bench, slot: u32) -> Vec<u32> {
         let Slot::Good(packet) = table.slot(slot)? else {
             return None;
         };
-        let offers = |code: &u32| offered(place, packet.destination, *code).is_some();
+        let offers = |code: &u32| offered(profile, place, packet.destination, *code).is_some();
         Some(CODES.filter(offers).collect())
     };
     codes().unwrap_or_default()
@@ -73,11 +79,12 @@ pub fn move_something(bench: &mut Bench, mood: Mood) {
     let Some(slot) = bench.held_slot() else {
         return;
     };
-    let sensible = codes_for(bench, slot);
-    let code = match bench.dice.percent(90) {
-        true => bench.dice.pick(&sensible),
-        false => bench.dice.pick(&codes_and_beyond().collect::<Vec<u32>>()),
+    let codes = match bench.dice.below(10) {
+        0 => codes_and_beyond().collect(),
+        1 => codes_in(Profile::Full, bench, slot),
+        _ => codes_for(bench, slot),
     };
+    let code = bench.dice.pick(&codes);
     if code != 7 || mood.delivering {
         bench.call(Command::Move { slot, code });
     }

@@ -155,6 +155,13 @@ impl Bench {
         }
     }
 
+    /// Trailer byte 3, whether or not it then is a profile.
+    pub fn write_profile(&mut self, byte: u8) {
+        if let Some(start) = self.slice().len().checked_sub(TRAILER_BYTES) {
+            self.write(start + 3, &[byte]);
+        }
+    }
+
     pub fn finish(mut self) -> Vec<u8> {
         Command::Show.encode(&mut self.script);
         self.script

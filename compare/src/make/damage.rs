@@ -22,11 +22,12 @@ pub fn make(bench: &mut Bench) {
 }
 
 fn damage_once(bench: &mut Bench) {
-    match bench.dice.below(12) {
+    match bench.dice.below(14) {
         0..=4 => damage_a_held_slot(bench),
         5 => damage_any_slot(bench),
         6..=8 => damage_trailer(bench),
         9..=10 => change_counts(bench),
+        11..=12 => change_profile(bench),
         _ => put_another_trailer(bench),
     }
     if bench.grid().is_some() && bench.dice.percent(30) {
@@ -71,7 +72,7 @@ fn damage_trailer(bench: &mut Bench) {
         return;
     };
     let mut damaged = old;
-    // The byte that must be zero and the distance more often than the rest.
+    // The profile and the distance more often than the rest.
     let any = bench.dice.below(damaged.len());
     let number = bench.dice.pick(&[0, 1, 2, 3, 3, 4, 8, 12, 12, 13, any]);
     if let Some(byte) = damaged.get_mut(number) {
@@ -124,6 +125,20 @@ fn change_counts(bench: &mut Bench) {
     bench.write_trailer(&counts.encode());
     acts::every_call(bench, slot);
     bench.write_trailer(&old);
+}
+
+/// The same packets under another profile, or under none that there is.
+fn change_profile(bench: &mut Bench) {
+    let Some([_, _, _, old, ..]) = bench.trailer_bytes() else {
+        return;
+    };
+    let other = bench.dice.pick(&[0, 1, 2, 3, 3, 255]);
+    bench.write_profile(other);
+    let slot = bench.held_slot().unwrap_or(0);
+    acts::every_call(bench, slot);
+    if bench.grid().is_none() || bench.dice.percent(50) {
+        bench.write_profile(old);
+    }
 }
 
 /// Other sizes with a fitting distance: the old bytes read as another table. Width and height

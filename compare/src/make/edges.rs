@@ -29,33 +29,31 @@ pub fn make(bench: &mut Bench) {
 fn lend_at_the_edge(bench: &mut Bench, sizes: Sizes) {
     for length in [sizes.length() - 1, sizes.length()] {
         bench.put(Command::Lend { length });
+        if bench.dice.percent(30) {
+            let refused = sizes.clear_with_no_profile(&mut bench.dice);
+            bench.call(refused);
+        }
         let clear = sizes.clear(&mut bench.dice);
         bench.call(clear);
     }
-    for command in sizes_just_outside(sizes) {
+    for outside in sizes_just_outside(sizes) {
         if bench.dice.percent(30) {
-            bench.call(command);
+            let refused = outside.clear(&mut bench.dice);
+            bench.call(refused);
         }
     }
 }
 
-fn sizes_just_outside(sizes: Sizes) -> [Command; 5] {
-    let Sizes {
-        width,
-        height,
-        depth,
-    } = sizes;
-    let clear = |width, height, depth| Command::Clear {
-        width,
-        height,
-        depth,
-    };
+fn sizes_just_outside(sizes: Sizes) -> [Sizes; 5] {
     [
-        clear(0, height, depth),
-        clear(width, 0, depth),
-        clear(17, height, depth),
-        clear(width, 17, depth),
-        clear(width, height, 8),
+        Sizes { width: 0, ..sizes },
+        Sizes { height: 0, ..sizes },
+        Sizes { width: 17, ..sizes },
+        Sizes {
+            height: 17,
+            ..sizes
+        },
+        Sizes { depth: 8, ..sizes },
     ]
 }
 

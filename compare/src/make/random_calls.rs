@@ -69,9 +69,10 @@ fn one(bench: &mut Bench) {
         },
         7..=8 => Command::Payload { slot: slot(bench) },
         9 => Command::Clear {
-            width: size(bench),
-            height: size(bench),
-            depth: size(bench),
+            width: small_number(bench),
+            height: small_number(bench),
+            depth: small_number(bench),
+            profile: small_number(bench),
         },
         10 => return set_a_byte(bench),
         11..=13 => return acts::look_at_the_whole_table(bench),
@@ -110,7 +111,7 @@ fn code(bench: &mut Bench) -> u32 {
     }
 }
 
-fn size(bench: &mut Bench) -> u32 {
+fn small_number(bench: &mut Bench) -> u32 {
     match bench.dice.percent(80) {
         true => bench.dice.number() % 4,
         false => bench.dice.pick(EXTREMES),

@@ -1,8 +1,12 @@
-//! Sizes of grids, and the slices lent for them.
+//! Sizes of grids, the clears that ask for them, and the slices lent for them.
 
 use super::bench::Bench;
 use super::dice::Dice;
 use crate::script::Command;
+
+const PROFILES: [u32; 3] = [0, 1, 2];
+/// Past the profiles by one or by far, and numbers that are a profile once cut to fewer bits.
+const NO_PROFILES: [u32; 8] = [3, 4, 255, 256, 257, 65_538, 1 << 31, u32::MAX];
 
 #[derive(Clone, Copy, Debug, Default)]
 pub struct Sizes {
@@ -44,13 +48,26 @@ impl Sizes {
         16 * self.slots() + 16
     }
 
-    /// Depth 5 asked for as 0 now and then.
+    /// With any profile that there is; depth 5 is asked for as 0 now and then.
     pub fn clear(&self, dice: &mut Dice) -> Command {
         let zero = self.depth == 5 && dice.percent(50);
+        let asked = Sizes {
+            depth: if zero { 0 } else { self.depth },
+            ..*self
+        };
+        asked.clear_with(dice.pick(&PROFILES))
+    }
+
+    pub fn clear_with_no_profile(&self, dice: &mut Dice) -> Command {
+        self.clear_with(dice.pick(&NO_PROFILES))
+    }
+
+    fn clear_with(&self, profile: u32) -> Command {
         Command::Clear {
             width: self.width,
             height: self.height,
-            depth: if zero { 0 } else { self.depth },
+            depth: self.depth,
+            profile,
         }
     }
 }
@@ -58,6 +75,10 @@ impl Sizes {
 pub fn lend_cleared(bench: &mut Bench, sizes: Sizes, prefix: u32) {
     let length = sizes.length() + prefix;
     bench.put(Command::Lend { length });
+    if bench.dice.percent(5) {
+        let refused = sizes.clear_with_no_profile(&mut bench.dice);
+        bench.call(refused);
+    }
     let clear = sizes.clear(&mut bench.dice);
     bench.call(clear);
 }

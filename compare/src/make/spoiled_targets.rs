@@ -46,7 +46,7 @@ fn counted_queue(bench: &Bench, slot: u32, code: u32) -> Option<Range<usize>> {
     let Slot::Good(packet) = table.slot(slot)? else {
         return None;
     };
-    let counted = match offered(place, packet.destination, code)? {
+    let counted = match offered(table.trailer.profile, place, packet.destination, code)? {
         Step::Queue(target) | Step::Hop(target) => target,
         Step::Delivery => place,
     };

@@ -2,6 +2,7 @@
 
 mod left;
 mod moving;
+mod profiles;
 mod slots;
 mod taking;
 mod whole_table;
@@ -24,6 +25,21 @@ pub const MISTAKES: &[(&str, &dyn Calls)] = &[
     ("hops-to-go", &moving::HopsToGo),
     ("mark-only", &moving::MarkOnly),
     ("spoiled-as-empty", &moving::SpoiledAsEmpty),
+    ("adapt-drops-in-b", &profiles::AdaptDropsInB),
+    ("adapt-keeps-5", &profiles::AdaptKeepsFive),
+    ("clear-cuts-profile", &profiles::ClearCutsProfile),
+    ("clear-takes-profile-3", &profiles::ClearTakesThree),
+    ("copy-forgets-profile", &profiles::CopyForgetsProfile),
+    ("find-in-full", &profiles::FindInFull),
+    ("length-before-profile", &profiles::LengthBeforeProfile),
+    (
+        "oblivious-changes-at-home",
+        &profiles::ObliviousChangesAtHome,
+    ),
+    ("oblivious-prefers-5", &profiles::ObliviousPrefersFive),
+    ("profile-not-held", &profiles::ProfileNotHeld),
+    ("take-forgets-profile", &profiles::TakeForgetsProfile),
+    ("trailer-takes-profile-3", &profiles::TrailerTakesThree),
     ("clears-before-table", &taking::ClearsBeforeTable),
     ("depth-zero-refused", &taking::DepthZeroRefused),
     ("full-before-end", &taking::FullBeforeEnd),

@@ -1,6 +1,6 @@
 //! Mistakes in clearing, taking in and reading.
 
-use super::slots::{grid, slot_bytes};
+use super::slots::slot_bytes;
 use crate::calls::Calls;
 use crate::router::{clear, read_payload, take_in, Refusal, TakenIn, Trailer};
 
@@ -8,20 +8,22 @@ use crate::router::{clear, read_payload, take_in, Refusal, TakenIn, Trailer};
 pub struct ClearsBeforeTable;
 
 impl Calls for ClearsBeforeTable {
-    fn clear(&self, slice: &mut [u8], [width, height, depth]: [u32; 3]) -> Result<(), Refusal> {
-        clear(slice, width, height, depth)?;
+    fn clear(&self, slice: &mut [u8], board: [u32; 4]) -> Result<(), Refusal> {
+        let [width, height, depth, profile] = board;
+        clear(slice, width, height, depth, profile)?;
         slice.fill(0);
-        clear(slice, width, height, depth)
+        clear(slice, width, height, depth, profile)
     }
 }
 
 pub struct DepthZeroRefused;
 
 impl Calls for DepthZeroRefused {
-    fn clear(&self, slice: &mut [u8], [width, height, depth]: [u32; 3]) -> Result<(), Refusal> {
+    fn clear(&self, slice: &mut [u8], board: [u32; 4]) -> Result<(), Refusal> {
+        let [width, height, depth, profile] = board;
         match depth {
-            0 => Err(Refusal::SizeNotAccepted),
-            _ => clear(slice, width, height, depth),
+            0 => Err(Refusal::BoardNotAccepted),
+            _ => clear(slice, width, height, depth, profile),
         }
     }
 }
@@ -37,7 +39,11 @@ impl Calls for FullBeforeEnd {
             return answer;
         }
         let mut below_the_end = slice.to_vec();
-        let trailer = grid(slice).map(Trailer::fresh);
+        let trailer = Trailer::decode(slice).map(|trailer| Trailer {
+            taken: 0,
+            delivered: 0,
+            ..trailer
+        });
         if let (Some(end), Some(trailer)) = (below_the_end.last_chunk_mut(), trailer) {
             *end = trailer.encode();
         }

@@ -69,7 +69,8 @@ pub fn weigh<Bytes: AsRef<[u8]>>(
         Slot::Spoiled => return Err(Refusal::SlotSpoiled),
         Slot::Good(packet) => packet,
     };
-    let step = offered(place, packet.destination, code).ok_or(Refusal::NotOffered)?;
+    let step = offered(table.trailer.profile, place, packet.destination, code);
+    let step = step.ok_or(Refusal::NotOffered)?;
     let (target, hops) = match step {
         Step::Delivery => return Ok(Landing::Delivery(packet)),
         Step::Queue(target) => (target, packet.hops),

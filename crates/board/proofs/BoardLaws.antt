@@ -11,6 +11,7 @@ use Rattle.network.specs.declared.Kind.the-variants.{Waiting}
 use Rattle.network.specs.declared.Place.{Place}
 use Rattle.network.specs.Net.{NetLaws}
 use Rattle.network.specs.View.{LayoutLaws}
+use Rattle.mesh.specs.Rule.{profileOf}
 use Rattle.mesh.proofs.Hops.{on-means}
 use Rattle.mesh.proofs.Instance.{mesh-laws}
 use Rattle.mesh.proofs.Metric.{distance-most}
@@ -24,11 +25,11 @@ use Rattle.board.proofs.Places.{queue-inside, queue-there, queue-roomy,
 -- the rule is the published one
 pub published-on : (b : Board) (p : Place) (d c : ℕ) → netOf b .rule p d c ≡ publishedOn b p d c
 unfolding netOf publishedOn
-published-on b = published-is
+published-on b = published-is (profileOf (b .profile))
 
 pub net-laws : (b : Board) → NetLaws (netOf b)
 unfolding netOf
-net-laws b = mesh-laws (b .width) (b .height)
+net-laws b = mesh-laws (b .width) (b .height) (profileOf (b .profile))
 
 pub last-byte : (b : Board) → netOf b .last < 256
 unfolding netOf

@@ -1,4 +1,4 @@
--- The sizes that are accepted, and how large they make a table.
+-- The boards that are accepted, and how large they make a table.
 -- Assumes nothing.
 use Prim.Native.Nat.{ℕ, _*_, _≤_}
 use mathlib.Core.Path.{_≡_, _∙_}
@@ -18,7 +18,8 @@ board-good b e =
     let d = both-true _ _ (a .1) in
     let x = both-true _ _ (a .0) in
     let y = both-true _ _ (d .0) in
-    let z = both-true _ _ (d .1) in
+    let p = both-true _ _ (d .1) in
+    let z = both-true _ _ (p .0) in
     record {
       width-low = leb-true _ _ (x .0);
       width-high = leb-true _ _ (x .1);
@@ -26,6 +27,7 @@ board-good b e =
       height-high = leb-true _ _ (y .1);
       depth-low = leb-true _ _ (z .0);
       depth-high = leb-true _ _ (z .1);
+      profile-high = leb-true _ _ (p .1);
     }
 
 in-range : (x low high : ℕ) → low ≤ x → x ≤ high → inRange x low high ≡ true
@@ -36,7 +38,8 @@ unfolding boardOk
 good-board g =
     and-yes (in-range _ _ _ (g .width-low) (g .width-high))
     ∙ and-yes (in-range _ _ _ (g .height-low) (g .height-high))
-    ∙ in-range _ _ _ (g .depth-low) (g .depth-high)
+    ∙ and-yes (in-range _ _ _ (g .depth-low) (g .depth-high))
+    ∙ le-leb _ _ (g .profile-high)
 
 pub nodes-most : {b : Board} → GoodBoard b → b .width * b .height ≤ 256
 nodes-most g = mul-le-mul (g .width-high) (g .height-high)

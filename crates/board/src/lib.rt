@@ -1,4 +1,4 @@
-// A board: its sizes, what its network answers, and where its slots are. Everything above asks here, and names no network.
+// A board: its sizes and its profile, what its network answers, and where its slots are. Everything above asks here, and names no network.
 use network::Lead;
 use network::Place;
 ghost use mathlib.Core.Path.{_≡_};
@@ -10,6 +10,8 @@ pub struct Board {
     pub width: usize,
     pub height: usize,
     pub depth: usize,
+    // which of the rule's moves it has: 0, 1 or 2
+    pub profile: usize,
 }
 
 // A node as it is written.
@@ -27,7 +29,7 @@ fn within(x: usize, low: usize, high: usize) -> bool
     x <= high
 }
 
-// Are its sizes accepted?
+// Are its sizes and its profile accepted?
 pub fn board_ok(b: Board) -> bool
     ensures { λ r. ⌜ r ≡ boardOk b ⌝ }
 {
@@ -37,7 +39,10 @@ pub fn board_ok(b: Board) -> bool
     if !within(b.height, 1, 16) {
         return false;
     }
-    within(b.depth, 1, 7)
+    if !within(b.depth, 1, 7) {
+        return false;
+    }
+    b.profile <= 2
 }
 
 // Is there such a node?
@@ -65,7 +70,7 @@ pub fn settled(b: Board, here: u8, destination: u8) -> bool
 pub fn rule(b: Board, here: Place, destination: u8, code: u32) -> Lead
     ensures { λ r. ⌜ r ≡ netOf b .rule here destination code ⌝ }
 {
-    mesh::rule(here, destination, code)
+    mesh::rule(mesh::profile_of(b.profile), here, destination, code)
 }
 
 // Is there such a code?

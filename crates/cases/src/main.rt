@@ -1,4 +1,5 @@
-// Document 01's cases that are run and not proved, one call of every refusal, a slot that the next packet takes at once, and order 1's room left.
+// Document 01's cases that are run and not proved, one call of every refusal, a slot that the next packet takes at once, order 1's room left, and
+// order 2's profiles.
 
 use survey::checking;
 use survey::checking::PlacedAnswer;
@@ -32,9 +33,9 @@ fn left(n: u32) {
     say(b"\n");
 }
 
-fn clear(s: &mut [u8], width: u32, height: u32, depth: u32) {
+fn clear(s: &mut [u8], width: u32, height: u32, depth: u32, profile: u32) {
     say(b"clear ");
-    number(router::clear(s, width, height, depth));
+    number(router::clear(s, width, height, depth, profile));
     say(b"\n");
 }
 
@@ -128,7 +129,7 @@ fn show(s: &[u8]) {
 fn at_home() {
     say(b"at its destination from the start\n");
     let mut t = [0u8; 64];
-    clear(&mut t, 1, 1, 1);
+    clear(&mut t, 1, 1, 1, 0);
     take_in(&mut t, 0, 0);
     make_move(&mut t, 0, 1);
     make_move(&mut t, 2, 7);
@@ -139,7 +140,7 @@ fn at_home() {
 fn queue_full() {
     say(b"the target queue is full\n");
     let mut t = [0u8; 112];
-    clear(&mut t, 2, 1, 1);
+    clear(&mut t, 2, 1, 1, 0);
     take_in(&mut t, 0, 1);
     make_move(&mut t, 0, 1);
     make_move(&mut t, 1, 2);
@@ -152,7 +153,7 @@ fn queue_full() {
 fn slot_reused() {
     say(b"a slot just left\n");
     let mut t = [0u8; 112];
-    clear(&mut t, 2, 1, 1);
+    clear(&mut t, 2, 1, 1, 0);
     take_in(&mut t, 0, 1);
     make_move(&mut t, 0, 1);
     take_in(&mut t, 0, 1);
@@ -168,7 +169,7 @@ fn slot_reused() {
 fn room_left() {
     say(b"room left\n");
     let mut t = [0u8; 240];
-    clear(&mut t, 2, 1, 3);
+    clear(&mut t, 2, 1, 3, 0);
     take_in(&mut t, 0, 1);
     make_move(&mut t, 0, 1);
     take_in(&mut t, 0, 1);
@@ -179,7 +180,52 @@ fn room_left() {
     make_move(&mut t, 8, 7);
 }
 
-// A slice too short for a trailer, and a trailer that is not good.
+// Profile 1 on a 2 by 2 board: A at (1,0) to (0,1) has code 4 and not 3, A at (0,1) to (1,0) has code 2 and not 5; B has both falls.
+fn no_dynamic_hops() {
+    say(b"profile 1\n");
+    let mut t = [0u8; 208];
+    clear(&mut t, 2, 2, 1, 1);
+    show(&t[192..]);
+    take_in(&mut t, 1, 16);
+    make_move(&mut t, 3, 1);
+    make_move(&mut t, 4, 3);
+    make_move(&mut t, 4, 4);
+    make_move(&mut t, 10, 6);
+    make_move(&mut t, 11, 3);
+    make_move(&mut t, 8, 7);
+    take_in(&mut t, 16, 1);
+    make_move(&mut t, 6, 1);
+    make_move(&mut t, 7, 5);
+    make_move(&mut t, 7, 2);
+    make_move(&mut t, 10, 6);
+    make_move(&mut t, 11, 5);
+    make_move(&mut t, 5, 7);
+}
+
+// Profile 2 on a 2 by 2 board: A at (0,0) to (1,1) has code 2 and not 4, and there code 7 and not 6; B at (1,1) to (0,0) has code 3 and not 5.
+fn one_hop() {
+    say(b"profile 2\n");
+    let mut t = [0u8; 208];
+    clear(&mut t, 2, 2, 1, 2);
+    show(&t[192..]);
+    take_in(&mut t, 0, 17);
+    make_move(&mut t, 0, 1);
+    make_move(&mut t, 1, 4);
+    find(&t);
+    make_move(&mut t, 1, 2);
+    make_move(&mut t, 4, 4);
+    make_move(&mut t, 10, 6);
+    make_move(&mut t, 10, 7);
+    take_in(&mut t, 17, 0);
+    make_move(&mut t, 9, 1);
+    make_move(&mut t, 11, 5);
+    make_move(&mut t, 11, 3);
+    make_move(&mut t, 8, 5);
+    make_move(&mut t, 2, 7);
+    show(&t[192..]);
+}
+
+// A slice too short for a trailer, and a trailer whose profile is 3.
 fn bad_trailer() {
     say(b"refusal 1\n");
     let mut short = [0u8; 15];
@@ -187,11 +233,12 @@ fn bad_trailer() {
     make_move(&mut short, 0, 1);
     read_payload(&short, 0);
     let mut t = [0u8; 64];
-    clear(&mut t, 1, 1, 1);
-    t[51] = 1;
+    clear(&mut t, 1, 1, 1, 0);
+    t[51] = 3;
     take_in(&mut t, 0, 0);
     make_move(&mut t, 0, 1);
     read_payload(&t, 0);
+    judge(&t);
     show(&t);
 }
 
@@ -204,7 +251,7 @@ fn put(s: &mut [u8], at: usize, value: u8) {
 // One byte of a good trailer changed: a payload is asked for, in a table of one node and depth 1.
 fn with_byte(at: usize, value: u8) {
     let mut t = [0u8; 64];
-    router::clear(&mut t, 1, 1, 1);
+    router::clear(&mut t, 1, 1, 1, 0);
     put(&mut t, at, value);
     read_payload(&t, 0);
 }
@@ -218,7 +265,7 @@ fn every_field() {
     with_byte(49, 17);
     with_byte(50, 0);
     with_byte(50, 8);
-    with_byte(51, 1);
+    with_byte(51, 3);
     with_byte(56, 1);
     with_byte(60, 65);
     with_byte(60, 63);
@@ -230,7 +277,7 @@ fn every_field() {
 fn out_of_range() {
     say(b"refusal 2\n");
     let mut t = [0u8; 112];
-    clear(&mut t, 2, 1, 1);
+    clear(&mut t, 2, 1, 1, 0);
     take_in(&mut t, 2, 0);
     take_in(&mut t, 0, 16);
     take_in(&mut t, 0, 1);
@@ -245,7 +292,7 @@ fn out_of_range() {
 fn empty_or_spoiled() {
     say(b"refusals 3 and 4\n");
     let mut t = [0u8; 112];
-    clear(&mut t, 2, 1, 1);
+    clear(&mut t, 2, 1, 1, 0);
     make_move(&mut t, 0, 1);
     read_payload(&t, 0);
     t[15] = 1;
@@ -259,7 +306,7 @@ fn empty_or_spoiled() {
 fn not_offered_or_no_room() {
     say(b"refusals 5 and 6\n");
     let mut t = [0u8; 112];
-    clear(&mut t, 2, 1, 1);
+    clear(&mut t, 2, 1, 1, 0);
     take_in(&mut t, 0, 1);
     take_in(&mut t, 0, 1);
     make_move(&mut t, 0, 2);
@@ -272,7 +319,7 @@ fn not_offered_or_no_room() {
 fn all_taken() {
     say(b"refusal 7\n");
     let mut t = [0u8; 112];
-    clear(&mut t, 2, 1, 1);
+    clear(&mut t, 2, 1, 1, 0);
     t[100] = 255;
     t[101] = 255;
     t[102] = 255;
@@ -283,15 +330,18 @@ fn all_taken() {
     show(&t);
 }
 
-fn sizes() {
+fn boards_refused() {
     say(b"refusals 8 and 9\n");
     let mut t = [7u8; 111];
-    clear(&mut t, 0, 1, 1);
-    clear(&mut t, 17, 1, 1);
-    clear(&mut t, 1, 4294967295, 1);
-    clear(&mut t, 1, 1, 8);
-    clear(&mut t, 2, 1, 1);
-    clear(&mut t, 1, 1, 2);
+    clear(&mut t, 0, 1, 1, 0);
+    clear(&mut t, 17, 1, 1, 0);
+    clear(&mut t, 1, 4294967295, 1, 0);
+    clear(&mut t, 1, 1, 8, 0);
+    clear(&mut t, 1, 1, 1, 3);
+    clear(&mut t, 1, 1, 1, 4294967295);
+    clear(&mut t, 2, 1, 1, 3);
+    clear(&mut t, 2, 1, 1, 0);
+    clear(&mut t, 1, 1, 2, 0);
     show(&t);
 }
 
@@ -301,7 +351,7 @@ fn judged() {
     let mut t = [0u8; 64];
     let mut short = [9u8; 63];
     let mut long = [9u8; 65];
-    clear(&mut t, 1, 1, 1);
+    clear(&mut t, 1, 1, 1, 0);
     judge(&t);
     take_in(&mut t, 0, 0);
     judge(&t);
@@ -314,13 +364,13 @@ fn faulty() {
     say(b"tables that do not pass\n");
     let mut t = [0u8; 64];
     judge(&t);
-    clear(&mut t, 1, 1, 1);
+    clear(&mut t, 1, 1, 1, 0);
     t[15] = 1;
     judge(&t);
     t[15] = 0;
     t[52] = 1;
     judge(&t);
-    clear(&mut t, 1, 1, 1);
+    clear(&mut t, 1, 1, 1, 0);
     take_in(&mut t, 0, 0);
     make_move(&mut t, 0, 1);
     take_in(&mut t, 0, 0);
@@ -333,13 +383,15 @@ fn main() {
     queue_full();
     slot_reused();
     room_left();
+    no_dynamic_hops();
+    one_hop();
     bad_trailer();
     every_field();
     out_of_range();
     empty_or_spoiled();
     not_offered_or_no_room();
     all_taken();
-    sizes();
+    boards_refused();
     judged();
     faulty();
 }

@@ -1,10 +1,11 @@
--- How long the text of a table is: the head line at most 57 bytes, a slot's line 59, the last line 10.
+-- How long the text of a table is: the head line at most 67 bytes, a slot's line 59, the last line 10.
 -- Assumes nothing.
 use Prim.Native.Nat.{ℕ, zero, suc, _+_, _*_, _^_, _≤_, _<_}
 use mathlib.Core.Path.{_≡_, refl, ap}
 use mathlib.Core.Bool.{Bool, true, false, not, cond}
-use mathlib.Core.List.{List}
+use mathlib.Core.List.{List, [], _++_}
 use native.Mathlib.Omega.{arith}
+use lib.Dec.{eqb}
 use lib.ListN.{length, getD, length-append}
 use Rattle.network.specs.declared.Kind.{Kind}
 use Rattle.network.specs.declared.Kind.the-variants.{Waiting, A, B}
@@ -17,8 +18,10 @@ use Rattle.trailer.specs.declared.Head.{Head}
 use Rattle.table.specs.Packets.{itemIn, goodAt}
 use Rattle.table.specs.Held.{heldAt, heldBelow}
 use Rattle.table.proofs.PacketLaws.{good-here, good-hops}
+use Rattle.text.specs.Dec.{dec}
+use Rattle.text.specs.Text.{text}
 use Rattle.text.proofs.DecLaws.{length-dec, length-u32}
-use Rattle.lines.specs.Line.{gridText, countsText, headLine, letter, nodeText, placeText, packetText, slotLine, lastLine}
+use Rattle.lines.specs.Line.{gridText, countsText, unsaid, profileText, headLine, letter, nodeText, placeText, packetText, slotLine, lastLine}
 use Rattle.lines.specs.Lines.{topOf, rowIn, rowAt, rowsIn, rowsText, tableText, room}
 use Rattle.lines.proofs.RowLaws.{row-empty, row-held, no-rows, rows-longer, table-is}
 
@@ -33,7 +36,15 @@ letter-one Waiting = refl
 letter-one A = refl
 letter-one B = refl
 
-head-short : (h : Head) → GoodBoard (h .board) → h .taken < 2 ^ 32 → h .delivered ≤ h .taken → length (headLine (topOf h)) ≤ 57
+profile-short : (profile : ℕ) → profile ≤ 2 → length (profileText profile) ≤ 10
+unfolding profileText
+profile-short profile l = go (eqb profile unsaid)
+  where
+    go : (b : Bool) → length (cond b [] (text " profile " ++ dec profile)) ≤ 10
+    go true = omega arith
+    go false = simp length-append (omega (arith, length-dec 0 profile (omega arith)))
+
+head-short : (h : Head) → GoodBoard (h .board) → h .taken < 2 ^ 32 → h .delivered ≤ h .taken → length (headLine (topOf h)) ≤ 67
 unfolding headLine gridText countsText
 head-short h g l d =
     simp length-append
@@ -44,6 +55,7 @@ head-short h g l d =
       length-dec 0 (h .board .depth) (omega (arith, g .depth-high)),
       length-u32 (h .taken) l,
       length-u32 (h .delivered) (omega arith),
+      profile-short (h .board .profile) (g .profile-high),
     ))
 
 last-short : (n : ℕ) → n ≤ 3840 → length (lastLine n) ≤ 10

@@ -2,7 +2,9 @@
 -- byte 10. Nodes are written as the board answers them.
 -- Assumes nothing.
 use Prim.Native.Nat.{ℕ}
+use mathlib.Core.Bool.{cond}
 use mathlib.Core.List.{List, [], _∷_, _++_}
+use lib.Dec.{eqb}
 use Rattle.network.specs.declared.Kind.{Kind}
 use Rattle.network.specs.declared.Kind.the-variants.{Waiting, A, B}
 use Rattle.network.specs.declared.Place.{Place}
@@ -41,6 +43,14 @@ gridText b = (text "grid " ++ dec (b .width)) ++ (text " " ++ dec (b .height)) +
 unfoldable pub countsText : ℕ → ℕ → List ℕ
 countsText taken delivered = (text " taken " ++ dec taken) ++ (text " delivered " ++ dec delivered)
 
+-- the profile of which a head line says nothing (document 02, order 2)
+abbrev pub unsaid : ℕ
+unsaid = 0
+
+-- ` profile P` for another
+unfoldable pub profileText : ℕ → List ℕ
+profileText profile = cond (eqb profile unsaid) [] (text " profile " ++ dec profile)
+
 abbrev pub letter : Kind → List ℕ
 letter Waiting = text "W"
 letter A = text "A"
@@ -66,7 +76,7 @@ packetText b source destination hops serial =
     ++ (text " serial " ++ dec serial)
 
 unfoldable pub headLine : Top → List ℕ
-headLine p = gridText (p .board) ++ countsText (p .taken) (p .delivered) ++ text "\n"
+headLine p = gridText (p .board) ++ countsText (p .taken) (p .delivered) ++ profileText (p .board .profile) ++ text "\n"
 
 unfoldable pub slotLine : Board → Row → List ℕ
 slotLine b r = placeText b (r .slot) (r .place) ++ packetText b (r .source) (r .destination) (r .hops) (r .serial) ++ text "\n"

@@ -59,6 +59,6 @@ tableText h t = joined (h .board) (linesOf h t)
 abbrev pub rowsText : Board → List Row → List ℕ
 rowsText b rs = joined b (onto rs [])
 
--- room for the longest text: 3,840 lines of at most 59 bytes, a head line of at most 57 and a last line of at most 10
+-- room for the longest text: 3,840 lines of at most 59 bytes, a head line of at most 67 and a last line of at most 10
 abbrev pub room : ℕ
-room = 3840 * 59 + 57 + 10
+room = 3840 * 59 + 67 + 10

@@ -11,11 +11,11 @@ ghost use Rattle.board.specs.Board.{GoodBoard};
 ghost use Rattle.board.specs.Layout.{layoutOf, Sized};
 ghost use Rattle.table.specs.Held.{heldBelow};
 ghost use Rattle.text.specs.Put.{Fits, Wrote};
-ghost use Rattle.lines.specs.Line.{gridText, countsText, headLine, letter, nodeText, placeText, packetText, slotLine, lastLine};
+ghost use Rattle.lines.specs.Line.{gridText, countsText, profileText, headLine, letter, nodeText, placeText, packetText, slotLine, lastLine};
 ghost use Rattle.lines.specs.Lines.{topOf, rowOf, rowAt, rowsIn, rowsText, tableText};
 
-// Room for the longest text, 226,627 bytes: a slot's line has at most 59, the head line 57, the last line 10.
-pub const ROOM: usize = 3840 * 59 + 57 + 10;
+// Room for the longest text, 226,637 bytes: a slot's line has at most 59, the head line 67, the last line 10.
+pub const ROOM: usize = 3840 * 59 + 67 + 10;
 
 fn put_grid(buf: &mut [u8], at: usize, board: Board) -> usize
     requires { ⌜ GoodBoard board ⌝ }
@@ -35,6 +35,20 @@ fn put_counts(buf: &mut [u8], at: usize, h: Head) -> usize
     text::put_word_decimal(buf, a, b" delivered ", h.delivered)
 }
 
+// The profile of which a head line says nothing.
+const UNSAID: usize = 0;
+
+fn put_profile(buf: &mut [u8], at: usize, profile: usize) -> usize
+    requires { ⌜ profile ≤ 2 ⌝ }
+    requires { ⌜ Fits (now buf) at (profileText profile) ⌝ }
+    ensures { λ r. ⌜ Wrote (now (buf .entry)) at (profileText profile) (now (buf .exit)) r ⌝ }
+{
+    if profile == UNSAID {
+        return at;
+    }
+    text::put_word_decimal(buf, at, b" profile ", profile as u32)
+}
+
 fn put_head(buf: &mut [u8], at: usize, h: Head) -> usize
     requires { ⌜ GoodBoard (h .board) ⌝ }
     requires { ⌜ Fits (now buf) at (headLine (topOf h)) ⌝ }
@@ -43,7 +57,8 @@ fn put_head(buf: &mut [u8], at: usize, h: Head) -> usize
     let board = h.board;
     let a = put_grid(buf, at, board);
     let b = put_counts(buf, a, h);
-    text::put_byte(buf, b, b'\n')
+    let c = put_profile(buf, b, board.profile);
+    text::put_byte(buf, c, b'\n')
 }
 
 fn letter_of(kind: Kind) -> u8

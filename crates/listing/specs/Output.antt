@@ -45,7 +45,7 @@ listing s = unlessLong s (onPassing s (refusalLine trailer-not-good) faultLine t
 unfoldable pub verdict : List ℕ → List ℕ
 verdict s = unlessLong s (verdictLine (checkedSlice s))
 
--- no line is longer
+-- room for the check's line
 abbrev pub lineRoom : ℕ
 lineRoom = 59
 

@@ -17,7 +17,7 @@ ghost use Rattle.listing.specs.Output.{refusalLine, faultLine, verdictLi
 // The longest input that is read.
 pub const MOST: usize = 65536;
 
-// No line is longer.
+// Room for the check's line.
 pub const LINE_ROOM: usize = 59;
 
 // How much of the buffer is text, or a refusal's number.

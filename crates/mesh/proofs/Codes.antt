@@ -5,15 +5,16 @@ use native.Mathlib.Numerals.{unary-clauses}
 use native.Mathlib.Omega.{arith}
 use mathlib.Core.Path.{_≡_, refl}
 use mathlib.Core.Logic.{_⊎_, inl, inr}
-use mathlib.Core.Bool.{Bool, true, false, cond}
+use mathlib.Core.Bool.{Bool, true, false, cond, _&&_}
 use borrow.Author.Tests.{le-leb, lt-leb}
 use Rattle.network.specs.declared.Place.{Place}
 use Rattle.network.specs.declared.Lead.the-variants.{Out, NotOffered}
 use Rattle.network.proofs.Tests.{clash}
+use Rattle.mesh.specs.declared.Profile.{Profile}
 use Rattle.mesh.specs.declared.Step.{Step}
 use Rattle.mesh.specs.declared.Step.the-variants.{Enter, Right, Left, Up, Down, Change, Deliver, Unknown}
 use Rattle.mesh.specs.declared.Signs.{Signs}
-use Rattle.mesh.specs.Rule.{stepOf, signsOf, offers, leads, ruled}
+use Rattle.mesh.specs.Rule.{stepOf, signsOf, offers, keeps, leads, ruled}
 use Rattle.mesh.specs.Mesh.{isCode}
 use Rattle.mesh.proofs.Hops.{other-code}
 
@@ -62,14 +63,15 @@ deliver-code =
         let other = other-code c u in
         simp (other 1 refl, other 2 refl, other 3 refl, other 4 refl, other 5 refl, other 6 refl, other 7 refl)
 
-pub out-code : (p : Place) (d c : ℕ) → ruled p d c ≡ Out → c ≡ 7
+pub out-code : (profile : Profile) (p : Place) (d c : ℕ) → ruled profile p d c ≡ Out → c ≡ 7
 unfolding ruled
-out-code p d c e = deliver-code c (out-step (stepOf c) (p .node) (signsOf (p .node) d) (offers (stepOf c) (signsOf (p .node) d) (p .kind)) e)
+out-code profile p d c e = deliver-code c (out-step (stepOf c) (p .node) (signsOf (p .node) d)
+    (keeps profile (stepOf c) (signsOf (p .node) d) (p .kind) && offers (stepOf c) (signsOf (p .node) d) (p .kind)) e)
 
 -- and it leads nowhere else
-pub delivers : (p : Place) (d : ℕ) → (ruled p d 7 ≡ Out) ⊎ (ruled p d 7 ≡ NotOffered)
+pub delivers : (profile : Profile) (p : Place) (d : ℕ) → (ruled profile p d 7 ≡ Out) ⊎ (ruled profile p d 7 ≡ NotOffered)
 unfolding ruled stepOf
-delivers p d = go (offers Deliver (signsOf (p .node) d) (p .kind))
+delivers profile p d = go (keeps profile Deliver (signsOf (p .node) d) (p .kind) && offers Deliver (signsOf (p .node) d) (p .kind))
   where
     go : (b : Bool) → (cond b Out NotOffered ≡ Out) ⊎ (cond b Out NotOffered ≡ NotOffered)
     go true = inl refl

@@ -5,19 +5,28 @@ use mathlib.Core.Path.{_≡_, sym, _∙_}
 use mathlib.Core.Bool.{Bool}
 use Rattle.network.specs.declared.Place.{Place}
 use Rattle.network.specs.declared.Lead.{Lead}
+use Rattle.mesh.specs.declared.Profile.{Profile}
 use Rattle.mesh.proofs.rule.Reads as rule-reads
+use Rattle.mesh.proofs.profile_of.Reads as profile-of-reads
 use Rattle.mesh.proofs.distance.Reads as distance-reads
 use Rattle.mesh.proofs.settled.Reads as settled-reads
 use Rattle.mesh.proofs.on_grid.Reads as on-grid-reads
 use Rattle.mesh.proofs.is_code.Reads as is-code-reads
 
-pub rule-determined : (here : Place) (destination code : ℕ) (r r′ : Lead)
-    → rule-reads.Post tt (here, (destination, (code, tt))) r (here, (destination, (code, tt)))
-    → rule-reads.Post tt (here, (destination, (code, tt))) r′ (here, (destination, (code, tt))) → r ≡ r′
-rule-determined here destination code r r′ h h′ = h ∙ sym h′
+pub rule-determined : (profile : Profile) (here : Place) (destination code : ℕ) (r r′ : Lead)
+    → rule-reads.Post tt (profile, (here, (destination, (code, tt)))) r (profile, (here, (destination, (code, tt))))
+    → rule-reads.Post tt (profile, (here, (destination, (code, tt)))) r′ (profile, (here, (destination, (code, tt)))) → r ≡ r′
+rule-determined profile here destination code r r′ h h′ = h ∙ sym h′
 
-pub rule-asks-nothing : (here : Place) (destination code : ℕ) → rule-reads.Asked tt (here, (destination, (code, tt)))
-rule-asks-nothing here destination code = tt
+pub rule-asks-nothing : (profile : Profile) (here : Place) (destination code : ℕ) → rule-reads.Asked tt (profile, (here, (destination, (code, tt))))
+rule-asks-nothing profile here destination code = tt
+
+pub profile-of-determined : (number : ℕ) (r r′ : Profile)
+    → profile-of-reads.Post tt (number, tt) r (number, tt) → profile-of-reads.Post tt (number, tt) r′ (number, tt) → r ≡ r′
+profile-of-determined number r r′ h h′ = h ∙ sym h′
+
+pub profile-of-asks-nothing : (number : ℕ) → profile-of-reads.Asked tt (number, tt)
+profile-of-asks-nothing number = tt
 
 pub distance-determined : (a b r r′ : ℕ)
     → distance-reads.Post tt (a, (b, tt)) r (a, (b, tt)) → distance-reads.Post tt (a, (b, tt)) r′ (a, (b, tt)) → r ≡ r′

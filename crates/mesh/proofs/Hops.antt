@@ -4,7 +4,7 @@
 use Prim.Native.Nat.{ℕ, suc, _<_, _≤_}
 use native.Mathlib.Omega.{arith}
 use mathlib.Core.Path.{_≡_, refl}
-use mathlib.Core.Bool.{Bool, true, false, not, cond, _&&_, _||_, false≢true}
+use mathlib.Core.Bool.{Bool, true, false, not, cond, _&&_, _||_, false≢true, and-false}
 use mathlib.Core.Logic.{_≢_}
 use lib.Dec.{ltb, eqb}
 use lib.IntN.{natAbs}
@@ -16,11 +16,12 @@ use Rattle.network.specs.declared.Lead.{Lead}
 use Rattle.network.specs.declared.Lead.the-variants.{Hop, Turn, Out, NotOffered}
 use Rattle.network.specs.Net.{at, beside}
 use Rattle.network.proofs.Tests.{and-l, and-r, clash}
+use Rattle.mesh.specs.declared.Profile.{Profile}
 use Rattle.mesh.specs.declared.Step.{Step}
 use Rattle.mesh.specs.declared.Step.the-variants.{Enter, Right, Left, Up, Down, Change, Deliver, Unknown}
 use Rattle.mesh.specs.Axis.{difference}
 use Rattle.mesh.specs.Grid.{xOf, yOf, onGrid, dxOf, dyOf, distanceOf}
-use Rattle.mesh.specs.Rule.{stepOf, signsOf, settledBy, inEach, offers, leads, ruled}
+use Rattle.mesh.specs.Rule.{stepOf, signsOf, settledBy, inEach, offers, keeps, leads, ruled}
 use Rattle.mesh.specs.Mesh.{isCode}
 use Rattle.mesh.proofs.Coordinates.{natAbs-is}
 use Rattle.mesh.proofs.Offers.{settled-means, settled-by, offered-toward}
@@ -96,7 +97,7 @@ enters true up = (omega arith, λ e. clash cc)
 enters false true = (omega arith, λ e. clash cc)
 enters false false = (omega arith, λ e. refl)
 
-module _ (h d : ℕ) where
+module _ (profile : Profile) (h d : ℕ) where
   -- what an answer of the rule tells
   abbrev pub Told : Kind → Lead → Type 0
   Told k (Hop n) = (k ≢ Waiting) × Hopping h d n
@@ -118,15 +119,16 @@ module _ (h d : ℕ) where
   offered-tells Deliver k o = offered-toward h d Deliver k o
   offered-tells Unknown k o = tt
 
-  pub tells : (k : Kind) (c : ℕ) → Told k (ruled (at h k) d c)
+  pub tells : (k : Kind) (c : ℕ) → Told k (ruled profile (at h k) d c)
   unfolding ruled
-  tells k c = go (offers (stepOf c) (signsOf h d) k) refl
+  tells k c = go (keeps profile (stepOf c) (signsOf h d) k && offers (stepOf c) (signsOf h d) k) refl
     where
-      go : (t : Bool) → offers (stepOf c) (signsOf h d) k ≡ t → Told k (cond t (leads (stepOf c) h (signsOf h d)) NotOffered)
-      go true o = offered-tells (stepOf c) k o
+      go : (t : Bool) → keeps profile (stepOf c) (signsOf h d) k && offers (stepOf c) (signsOf h d) k ≡ t
+          → Told k (cond t (leads (stepOf c) h (signsOf h d)) NotOffered)
+      go true o = offered-tells (stepOf c) k (and-r (keeps profile (stepOf c) (signsOf h d) k) _ o)
       go false o = tt
 
-  module _ (k : Kind) (c n : ℕ) (e : ruled (at h k) d c ≡ Hop n) where
+  module _ (k : Kind) (c n : ℕ) (e : ruled profile (at h k) d c ≡ Hop n) where
     told-hop : (k ≢ Waiting) × Hopping h d n
     told-hop = rw e at (tells k c)
 
@@ -146,7 +148,7 @@ module _ (h d : ℕ) where
     pub hop-queued : k ≢ Waiting
     hop-queued = told-hop .0
 
-  module _ (k l : Kind) (c : ℕ) (e : ruled (at h k) d c ≡ Turn l) where
+  module _ (k l : Kind) (c : ℕ) (e : ruled profile (at h k) d c ≡ Turn l) where
     told-turn : (beside l < beside k) × (l ≡ B → settledBy (signsOf h d) ≡ true)
     told-turn = rw e at (tells k c)
 
@@ -156,7 +158,7 @@ module _ (h d : ℕ) where
     pub turn-settled : l ≡ B → settledBy (signsOf h d) ≡ true
     turn-settled = told-turn .1
 
-  pub out-there : (k : Kind) (c : ℕ) → ruled (at h k) d c ≡ Out → h ≡ d
+  pub out-there : (k : Kind) (c : ℕ) → ruled profile (at h k) d c ≡ Out → h ≡ d
   out-there k c e = rw e at (tells k c)
 
 -- a number that is no code is none of the seven
@@ -168,8 +170,8 @@ never Waiting = refl
 never A = refl
 never B = refl
 
-pub unknown-never : (p : Place) (d c : ℕ) → isCode c ≡ false → ruled p d c ≡ NotOffered
+pub unknown-never : (profile : Profile) (p : Place) (d c : ℕ) → isCode c ≡ false → ruled profile p d c ≡ NotOffered
 unfolding ruled stepOf
-unknown-never p d c e =
+unknown-never profile p d c e =
     let other = other-code c e in
-    simp (other 1 refl, other 2 refl, other 3 refl, other 4 refl, other 5 refl, other 6 refl, other 7 refl, never (p .kind))
+    simp (other 1 refl, other 2 refl, other 3 refl, other 4 refl, other 5 refl, other 6 refl, other 7 refl, never (p .kind), and-false)

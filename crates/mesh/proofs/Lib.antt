@@ -4,7 +4,8 @@ pub mod Offers
 pub mod Metric
 pub mod Hops
 pub mod Codes
+pub mod Source003
+pub mod Profiles
 pub mod Onward
 pub mod Instance
-pub mod Source003
 pub mod Determined

@@ -57,6 +57,16 @@ arrived-means h d e =
     let g = ltb-false (yOf d) (yOf h) (not-true _ (and-r (not (ltb (yOf h) (yOf d))) _ y)) in
     omega arith
 
+pub arrived-by : (h d : ℕ) → h ≡ d → arrivedBy (signsOf h d) ≡ true
+arrived-by h d e =
+    rw (
+      signs-are h d,
+      le-ltb (xOf h) (xOf d) (omega arith),
+      le-ltb (xOf d) (xOf h) (omega arith),
+      le-ltb (yOf h) (yOf d) (omega arith),
+      le-ltb (yOf d) (yOf h) (omega arith),
+    )
+
 abbrev pub Toward : Step → ℕ → ℕ → Type 0
 Toward Enter h d = Unit {0}
 Toward Right h d = xOf h < xOf d

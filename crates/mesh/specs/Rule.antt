@@ -1,4 +1,5 @@
--- Document 01's rule of moves, row by row of its table. Here (x, y), destination (z, w); the conditions are the signs of z - x and w - y.
+-- Document 01's rule of moves, row by row of its table, and what a board's profile keeps of it (document 02, order 2). Here (x, y), destination
+-- (z, w); the conditions are the signs of z - x and w - y.
 -- Assumes nothing.
 use Prim.Native.Nat.{ℕ, _+_, _-_, _≤_, _<_}
 use mathlib.Core.Bool.{Bool, true, false, not, cond, _&&_, _||_}
@@ -8,6 +9,8 @@ use Rattle.network.specs.declared.Kind.the-variants.{Waiting, A, B}
 use Rattle.network.specs.declared.Place.{Place}
 use Rattle.network.specs.declared.Lead.{Lead}
 use Rattle.network.specs.declared.Lead.the-variants.{Hop, Turn, Out, NotOffered}
+use Rattle.mesh.specs.declared.Profile.{Profile}
+use Rattle.mesh.specs.declared.Profile.the-variants.{Full, Adapt, Oblivious}
 use Rattle.mesh.specs.declared.Step.{Step}
 use Rattle.mesh.specs.declared.Step.the-variants.{Enter, Right, Left, Up, Down, Change, Deliver, Unknown}
 use Rattle.mesh.specs.declared.Signs.{Signs}
@@ -60,6 +63,38 @@ offers Change s = inEach false (settledBy s) false
 offers Deliver s = inEach false (arrivedBy s) (arrivedBy s)
 offers Unknown s = inEach false false false
 
+-- the profile of a number
+unfoldable pub profileOf : ℕ → Profile
+profileOf number = cond (eqb number 0) Full (cond (eqb number 1) Adapt Oblivious)
+
+-- no dynamic hop
+abbrev pub isStatic : Step → Kind → Bool
+isStatic Enter = inEach true true true
+isStatic Right = inEach true true true
+isStatic Left = inEach true false true
+isStatic Up = inEach true true true
+isStatic Down = inEach true false true
+isStatic Change = inEach true true true
+isStatic Deliver = inEach true true true
+isStatic Unknown = inEach true true true
+
+-- of several static moves one: in A Right before Up, in B Left before Down, at the destination Deliver before Change
+abbrev pub isChosen : Step → Signs → Kind → Bool
+isChosen Enter s = inEach true true true
+isChosen Right s = inEach true true true
+isChosen Left s = inEach true true true
+isChosen Up s = inEach true (not (s .right)) true
+isChosen Down s = inEach true true (not (s .left))
+isChosen Change s = inEach true (not (arrivedBy s)) true
+isChosen Deliver s = inEach true true true
+isChosen Unknown s = inEach true true true
+
+-- source 003, section VII: "removing all the dynamic transitions from FULL"; "choosing one only among the static transitions"
+abbrev pub keeps : Profile → Step → Signs → Kind → Bool
+keeps Full step s k = true
+keeps Adapt step s k = isStatic step k
+keeps Oblivious step s k = isStatic step k && isChosen step s k
+
 -- the second column: where a step leads from a node
 abbrev pub leads : Step → ℕ → Signs → Lead
 leads Enter n s = Turn (cond (s .right || s .up) A B)
@@ -82,9 +117,9 @@ Addressable Change n = Unit {0}
 Addressable Deliver n = Unit {0}
 Addressable Unknown n = Unit {0}
 
-abbrev pub ruledBy : Step → Place → Signs → Lead
-ruledBy step p s = cond (offers step s (p .kind)) (leads step (p .node) s) NotOffered
+abbrev pub ruledBy : Profile → Step → Place → Signs → Lead
+ruledBy profile step p s = cond (keeps profile step s (p .kind) && offers step s (p .kind)) (leads step (p .node) s) NotOffered
 
--- the rule: where a code leads a packet from its place, for its destination
-unfoldable pub ruled : Place → ℕ → ℕ → Lead
-ruled p destination code = ruledBy (stepOf code) p (signsOf (p .node) destination)
+-- the rule: where a code leads a packet from its place, for its destination, on a board of a profile
+unfoldable pub ruled : Profile → Place → ℕ → ℕ → Lead
+ruled profile p destination code = ruledBy profile (stepOf code) p (signsOf (p .node) destination)

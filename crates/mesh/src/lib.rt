@@ -4,10 +4,20 @@ use network::Lead;
 use network::Place;
 ghost use mathlib.Core.Path.{_≡_};
 ghost use Rattle.mesh.specs.Grid.{onGrid, distanceOf};
-ghost use Rattle.mesh.specs.Rule.{stepOf, signsOf, settledBy, inEach, offers, Addressable, leads, ruled};
+ghost use Rattle.mesh.specs.Rule.{profileOf, stepOf, signsOf, settledBy, arrivedBy, inEach, offers, isStatic, isChosen, keeps, Addressable, leads, ruled};
 ghost use Rattle.mesh.specs.Mesh.{isCode};
 
 mod axis;
+
+// Which of the rule's moves a board has (document 02, order 2), in the words of source 003, section VII.
+pub enum Profile {
+    // all
+    Full,
+    // none of the dynamic hops
+    Adapt,
+    // one hop at most, and in A no change at the destination
+    Oblivious,
+}
 
 // What a code names.
 pub enum Step {
@@ -65,6 +75,17 @@ pub fn is_code(code: u32) -> bool
     code <= LAST_CODE
 }
 
+// The profile of a number; those above 2 are on no board that is accepted.
+pub fn profile_of(number: usize) -> Profile
+    ensures { λ r. ⌜ r ≡ profileOf number ⌝ }
+{
+    match number {
+        0 => Profile::Full,
+        1 => Profile::Adapt,
+        _ => Profile::Oblivious,
+    }
+}
+
 fn step_of(code: u32) -> Step
     ensures { λ r. ⌜ r ≡ stepOf code ⌝ }
 {
@@ -103,6 +124,17 @@ pub fn settled(here: u8, destination: u8) -> bool
     !right & !up
 }
 
+// Here is the destination.
+fn arrived(s: Signs) -> bool
+    ensures { λ r. ⌜ r ≡ arrivedBy s ⌝ }
+{
+    let right = s.right;
+    let left = s.left;
+    let up = s.up;
+    let down = s.down;
+    (!right & !left) & (!up & !down)
+}
+
 // One of three tests, by the queue kind.
 fn in_each(waiting: bool, a: bool, b: bool, kind: Kind) -> bool
     ensures { λ r. ⌜ r ≡ inEach waiting a b kind ⌝ }
@@ -130,10 +162,44 @@ fn offered(step: Step, s: Signs, kind: Kind) -> bool
         Step::Down => in_each(false, down & right, down, kind),
         Step::Change => in_each(false, !right & !up, false, kind),
         Step::Deliver => {
-            let arrived = (!right & !left) & (!up & !down);
-            in_each(false, arrived, arrived, kind)
+            let there = arrived(s);
+            in_each(false, there, there, kind)
         }
         Step::Unknown => false,
+    }
+}
+
+// Not a dynamic hop.
+fn is_static(step: Step, kind: Kind) -> bool
+    ensures { λ r. ⌜ r ≡ isStatic step kind ⌝ }
+{
+    match step {
+        Step::Left => in_each(true, false, true, kind),
+        Step::Down => in_each(true, false, true, kind),
+        _ => true,
+    }
+}
+
+// The one of several static moves: in A Right before Up, in B Left before Down, at the destination delivery before the change.
+fn is_chosen(step: Step, s: Signs, kind: Kind) -> bool
+    ensures { λ r. ⌜ r ≡ isChosen step s kind ⌝ }
+{
+    match step {
+        Step::Up => in_each(true, !s.right, true, kind),
+        Step::Down => in_each(true, true, !s.left, kind),
+        Step::Change => in_each(true, !arrived(s), true, kind),
+        _ => true,
+    }
+}
+
+// What a profile keeps of the rule.
+fn kept(profile: Profile, step: Step, s: Signs, kind: Kind) -> bool
+    ensures { λ r. ⌜ r ≡ keeps profile step s kind ⌝ }
+{
+    match profile {
+        Profile::Full => true,
+        Profile::Adapt => is_static(step, kind),
+        Profile::Oblivious => is_static(step, kind) & is_chosen(step, s, kind),
     }
 }
 
@@ -162,15 +228,15 @@ fn lead(step: Step, node: u8, s: Signs) -> Lead
     }
 }
 
-// The rule of moves: where a code leads a packet from its place, for its destination. Any code is answered.
-pub fn rule(here: Place, destination: u8, code: u32) -> Lead
-    ensures { λ r. ⌜ r ≡ ruled here destination code ⌝ }
+// The rule of moves: where a code leads a packet from its place, for its destination, on a board of that profile. Any code is answered.
+pub fn rule(profile: Profile, here: Place, destination: u8, code: u32) -> Lead
+    ensures { λ r. ⌜ r ≡ ruled profile here destination code ⌝ }
 {
     let node = here.node;
     let kind = here.kind;
     let s = signs_of(node, destination);
     let step = step_of(code);
-    if offered(step, s, kind) {
+    if kept(profile, step, s, kind) & offered(step, s, kind) {
         lead(step, node, s)
     } else {
         Lead::NotOffered

@@ -65,12 +65,18 @@ pub struct Listed {
     pub length: usize,
 }
 
-// Refuses by 8 (width, height or depth not accepted), then 9 (the slice is shorter than the table).
+// Refuses by 8 (width, height, depth or profile not accepted), then 9 (the slice is shorter than the table).
 #[no_mangle]
-pub extern "C" fn paneglove_clear(s: &mut [u8], width: u32, height: u32, depth: u32) -> u32
-    ensures { λ r. ⌜ outcome r (now (s .exit)) ≡ clearedSlice (now (s .entry)) (asked width height depth) ⌝ }
+pub extern "C" fn paneglove_clear(
+    s: &mut [u8],
+    width: u32,
+    height: u32,
+    depth: u32,
+    profile: u32,
+) -> u32
+    ensures { λ r. ⌜ outcome r (now (s .exit)) ≡ clearedSlice (now (s .entry)) (asked width height depth profile) ⌝ }
 {
-    router::clear(s, width, height, depth)
+    router::clear(s, width, height, depth, profile)
 }
 
 // Refuses by 1 (trailer), 2 (source or destination off the grid), 7 (no serial is left), then 6 (the source's waiting slot is held).
@@ -164,7 +170,7 @@ pub extern "C" fn paneglove_copy_outward(s: &[u8], out: &mut [u8]) -> Copied
     }
 }
 
-// Refuses by 9 where the second buffer is shorter than the room, 226,627 bytes. Else the listing stands at its start, a refused table's in the
+// Refuses by 9 where the second buffer is shorter than the room, 226,637 bytes. Else the listing stands at its start, a refused table's in the
 // listing's own words, and its length is answered. The two buffers must not overlap.
 #[no_mangle]
 pub extern "C" fn paneglove_list(s: &[u8], out: &mut [u8]) -> Listed

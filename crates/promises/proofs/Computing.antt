@@ -2,7 +2,7 @@
 -- Assumes nothing.
 use Rattle.network.specs.Packet.{weight, good}
 use Rattle.mesh.specs.Grid.{distanceOf}
-use Rattle.mesh.specs.Rule.{stepOf, signsOf, ruled}
+use Rattle.mesh.specs.Rule.{profileOf, stepOf, signsOf, ruled}
 use Rattle.mesh.specs.Published.{published}
 use Rattle.slots.specs.Bytes.{bytes32}
 use Rattle.slots.specs.Slots.{slotAt, withSlot}
@@ -27,7 +27,7 @@ bytes = tt
 
 -- the rule of moves, the packets and the queues
 unfoldable pub rules : Unit {0}
-unfolding bytes netOf publishedOn distanceOf stepOf signsOf ruled published weight good goodAt roomAt emptiesAt vacated carried
+unfolding bytes netOf publishedOn distanceOf profileOf stepOf signsOf ruled published weight good goodAt roomAt emptiesAt vacated carried
 rules = tt
 
 -- the calls

@@ -166,7 +166,7 @@ pub fresh-same : (s u w : List ℕ) (board : Board) → tableSize board ≤ leng
 unfolding headIn
 fresh-same s u w board l b d a c =
     let last = trailer-told (last16 u) (last16 w) (length-last u (omega (arith, a .long))) (length-last w (omega (arith, c .long))) (bytes-last u b) (bytes-last w d)
-    (a .head ∙ sym (c .head)) (a .spare ∙ sym (c .spare)) in
+    (a .head ∙ sym (c .head)) in
     let size : headIn u .size ≡ tableSize board = ap (λ (h : Head). h .size) (a .head) in
     slice-told u w (layoutOf board .size) size (omega (arith, size, a .long, l)) (a .long ∙ sym (c .long)) last (a .before ∙ sym (c .before))
     (λ k m. a .slots k m ∙ sym (c .slots k m))

@@ -1,4 +1,5 @@
--- Document 01's cases marked P, as a table: what is asked, and what the answer must be. What can be asked of the calls is asked of them, on bytes.
+-- Document 01's cases marked P, and those of document 02's orders, as a table: what is asked, and what the answer must be. What can be asked of
+-- the calls is asked of them, on bytes.
 -- Assumes nothing.
 use Prim.Native.Nat.{ℕ, zero, suc}
 use mathlib.Core.Bool.{cond}
@@ -13,8 +14,8 @@ use Rattle.network.specs.declared.Lead.the-variants.{Hop, Turn, Out, NotOffered
 use Rattle.network.specs.Net.{Net, at, kindNumber, delivery}
 use Rattle.network.specs.Packet.{Item, offer}
 use Rattle.mesh.specs.Grid.{node, xOf, yOf}
-use Rattle.mesh.specs.Mesh.{mesh}
 use Rattle.slots.specs.Slots.{slotAt}
+use Rattle.board.specs.Board.{netOf}
 use Rattle.board.specs.Layout.{numberOf}
 use Rattle.table.specs.Calls.{Outcome}
 use Rattle.router.specs.Clear.{asked}
@@ -24,9 +25,9 @@ use Rattle.promises.specs.Demand3.{sumIn}
 
 -- ---- the rule
 
--- the grid of the cases of the rule
-abbrev pub grid : Net
-grid = mesh 3 3
+-- the grid of the cases of the rule, of a board of a profile
+abbrev pub grid : ℕ → Net
+grid profile = netOf (asked 3 3 1 profile)
 
 -- a packet at (x, y) for (z, w), as taken in there
 abbrev pub packetAt : Kind → ℕ → ℕ → ℕ → ℕ → Item
@@ -42,21 +43,21 @@ kept code l (Turn k) = code ∷ l
 kept code l Out = code ∷ l
 kept code l NotOffered = l
 
-abbrev pub offered : Item → List ℕ → List ℕ
-offered x [] = []
-offered x (code ∷ l) = kept code (offered x l) (offer grid x code)
+abbrev pub offered : ℕ → Item → List ℕ → List ℕ
+offered profile x [] = []
+offered profile x (code ∷ l) = kept code (offered profile x l) (offer (grid profile) x code)
 
 -- ---- sizes and places
 
 -- a clear of a slice of n zeros
-abbrev made : ℕ → ℕ → ℕ → ℕ → Outcome ℕ (List ℕ)
-made width height depth n = ours .clear (replicate n 0) (asked width height depth)
+abbrev made : ℕ → ℕ → ℕ → ℕ → ℕ → Outcome ℕ (List ℕ)
+made width height depth profile n = ours .clear (replicate n 0) (asked width height depth profile)
 
--- its number and, where that is 0, what the trailer made then tells: the depth used, S and the table's bytes
+-- its number and, where that is 0, what the trailer made then tells: the depth used, the profile, S and the table's bytes
 abbrev told : Outcome ℕ (List ℕ) → List ℕ
 told o =
     let u = o .bytes in
-    cond (eqb (o .answer) 0) (0 ∷ boardIn u .depth ∷ slotsIn u ∷ headIn u .size ∷ []) (o .answer ∷ [])
+    cond (eqb (o .answer) 0) (0 ∷ boardIn u .depth ∷ boardIn u .profile ∷ slotsIn u ∷ headIn u .size ∷ []) (o .answer ∷ [])
 
 -- a place: its node's number, x, y and kind
 abbrev placeNumbers : ℕ → Place → List ℕ
@@ -81,7 +82,7 @@ pub data Walk : Type 0 where
 -- one packet taken in on a fresh board of 3 by 3 and depth 1
 abbrev start : ℕ → ℕ → Walk
 start source destination =
-    let o = ours .take-in (made 3 3 1 448 .bytes) source destination payload in
+    let o = ours .take-in (made 3 3 1 0 448 .bytes) source destination payload in
     cond (eqb (o .answer .number) 0) (walking 0 (o .bytes) (o .answer .slot)) refused
 
 abbrev next : Walk → ℕ → Walk
@@ -112,12 +113,13 @@ deliveryOf refused = []
 -- ---- the questions
 
 pub data Question : Type 0 where
-  -- the codes that the rule offers, of all that there are
-  codes : Item → Question
+  -- the codes that the rule offers on a board of a profile, of all that there are
+  codes : ℕ → Item → Question
   -- the distance between two nodes
   apart : ℕ → ℕ → Question
-  -- a clear with this width, height and depth of a slice of so many bytes: its number, and the depth used, S and the table's bytes
-  clears : ℕ → ℕ → ℕ → ℕ → Question
+  -- a clear with this width, height, depth and profile of a slice of so many bytes: its number, and the depth used, the profile, S and the table's
+  -- bytes
+  clears : ℕ → ℕ → ℕ → ℕ → ℕ → Question
   -- in a fresh 3 by 3 table of depth 1, a slot's place: its node's number, x, y and kind
   placed : ℕ → Question
   -- where a slot's first byte is, in a table of 448 bytes
@@ -128,10 +130,10 @@ pub data Question : Type 0 where
   walked : ℕ → ℕ → List ℕ → Question
 
 abbrev pub answer : Question → List ℕ
-answer (codes x) = offered x (1 ∷ 2 ∷ 3 ∷ 4 ∷ 5 ∷ 6 ∷ 7 ∷ [])
-answer (apart a b) = grid .distance a b ∷ []
-answer (clears width height depth n) = told (made width height depth n)
-answer (placed slot) = placeNumbers 3 (placeIn (made 3 3 1 448 .bytes) slot)
+answer (codes profile x) = offered profile x (1 ∷ 2 ∷ 3 ∷ 4 ∷ 5 ∷ 6 ∷ 7 ∷ [])
+answer (apart a b) = grid 0 .distance a b ∷ []
+answer (clears width height depth profile n) = told (made width height depth profile n)
+answer (placed slot) = placeNumbers 3 (placeIn (made 3 3 1 0 448 .bytes) slot)
 answer (byteOf slot) = take 1 (slotAt (offsets 0 448) slot)
 answer (summed source destination) = sumOf (start source destination)
 answer (walked source destination l) = deliveryOf (walk (start source destination) l)
@@ -150,22 +152,36 @@ after moves = moves ∷ node 2 0 ∷ 1 ∷ node 0 2 ∷ node 2 0 ∷ 4 ∷ 0 ∷
 -- document 01, "On both sides of the edge"
 abbrev pub table : List Case
 table =
-    case (clears 3 3 1 448) (0 ∷ 1 ∷ 27 ∷ 448 ∷ [])
-    ∷ case (clears 3 3 1 447) (9 ∷ [])
-    ∷ case (clears 16 16 7 61456) (0 ∷ 7 ∷ 3840 ∷ 61456 ∷ [])
-    ∷ case (clears 16 16 8 61456) (8 ∷ [])
-    ∷ case (clears 1 1 0 192) (0 ∷ 5 ∷ 11 ∷ 192 ∷ [])
-    ∷ case (clears 1 1 0 191) (9 ∷ [])
+    case (clears 3 3 1 0 448) (0 ∷ 1 ∷ 0 ∷ 27 ∷ 448 ∷ [])
+    ∷ case (clears 3 3 1 0 447) (9 ∷ [])
+    ∷ case (clears 16 16 7 0 61456) (0 ∷ 7 ∷ 0 ∷ 3840 ∷ 61456 ∷ [])
+    ∷ case (clears 16 16 8 0 61456) (8 ∷ [])
+    ∷ case (clears 1 1 0 0 192) (0 ∷ 5 ∷ 0 ∷ 11 ∷ 192 ∷ [])
+    ∷ case (clears 1 1 0 0 191) (9 ∷ [])
     ∷ case (placed 20) (6 ∷ 0 ∷ 2 ∷ 2 ∷ [])
     ∷ case (byteOf 20) (320 ∷ [])
-    ∷ case (codes (packetAt A 0 2 2 0)) (2 ∷ 5 ∷ [])
-    ∷ case (codes (packetAt A 2 2 2 0)) (6 ∷ [])
-    ∷ case (codes (packetAt A 2 0 0 2)) (3 ∷ 4 ∷ [])
-    ∷ case (codes (packetAt A 1 1 1 1)) (6 ∷ 7 ∷ [])
-    ∷ case (codes (packetAt B 1 1 1 1)) (7 ∷ [])
-    ∷ case (codes (packetAt B 2 2 0 0)) (3 ∷ 5 ∷ [])
+    ∷ case (codes 0 (packetAt A 0 2 2 0)) (2 ∷ 5 ∷ [])
+    ∷ case (codes 0 (packetAt A 2 2 2 0)) (6 ∷ [])
+    ∷ case (codes 0 (packetAt A 2 0 0 2)) (3 ∷ 4 ∷ [])
+    ∷ case (codes 0 (packetAt A 1 1 1 1)) (6 ∷ 7 ∷ [])
+    ∷ case (codes 0 (packetAt B 1 1 1 1)) (7 ∷ [])
+    ∷ case (codes 0 (packetAt B 2 2 0 0)) (3 ∷ 5 ∷ [])
     ∷ case (apart (node 0 2) (node 2 0)) (4 ∷ [])
     ∷ case (summed (node 0 2) (node 2 0)) (7 ∷ [])
     ∷ case (walked (node 0 2) (node 2 0) (1 ∷ 2 ∷ 2 ∷ 6 ∷ 5 ∷ 5 ∷ 7 ∷ [])) (after 7)
     ∷ case (walked (node 0 2) (node 2 0) (1 ∷ 5 ∷ 2 ∷ 5 ∷ 2 ∷ 7 ∷ [])) (after 6)
+    -- order 2
+    ∷ case (clears 3 3 1 2 448) (0 ∷ 1 ∷ 2 ∷ 27 ∷ 448 ∷ [])
+    ∷ case (clears 3 3 1 2 447) (9 ∷ [])
+    ∷ case (clears 3 3 1 3 448) (8 ∷ [])
+    ∷ case (clears 3 3 1 3 447) (8 ∷ [])
+    ∷ case (codes 1 (packetAt A 2 0 0 2)) (4 ∷ [])
+    ∷ case (codes 1 (packetAt A 0 2 2 0)) (2 ∷ [])
+    ∷ case (codes 1 (packetAt A 1 1 1 1)) (6 ∷ 7 ∷ [])
+    ∷ case (codes 2 (packetAt A 0 0 2 2)) (2 ∷ [])
+    ∷ case (codes 2 (packetAt A 2 0 2 2)) (4 ∷ [])
+    ∷ case (codes 2 (packetAt A 2 2 2 0)) (6 ∷ [])
+    ∷ case (codes 2 (packetAt A 1 1 1 1)) (7 ∷ [])
+    ∷ case (codes 2 (packetAt B 2 2 0 0)) (3 ∷ [])
+    ∷ case (codes 2 (packetAt B 0 2 0 0)) (5 ∷ [])
     ∷ []

@@ -34,7 +34,7 @@ SpoiledAt s k = HeldAt s k × (GoodAt s k → ⊥)
 abbrev pub IsCode : List ℕ → ℕ → Type 0
 IsCode s code = netIn s .known code ≡ true
 
--- where the published function leads the packet of a slot by a code
+-- where the published function leads the packet of a slot by a code, in the profile of the table's own board
 abbrev pub leadIn : List ℕ → ℕ → ℕ → Lead
 leadIn s k code = publishedOn (boardIn s) (placeIn s k) (packetIn s k .packet .destination) code
 

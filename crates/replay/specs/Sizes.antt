@@ -8,7 +8,7 @@ unfoldable pub sizeOf : ℕ → ℕ
 sizeOf letter =
     cond (eqb letter 76) 5
     (cond (eqb letter 83) 6
-    (cond (eqb letter 67) 13
+    (cond (eqb letter 67) 17
     (cond (eqb letter 84) 11
     (cond (eqb letter 77) 9
     (cond (eqb letter 80) 5

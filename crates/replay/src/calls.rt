@@ -7,13 +7,14 @@ ghost use mathlib.Core.Path.{_≡_};
 ghost use lib.ListN.{length};
 
 pub fn clear(c: &[u8], s: &mut [u8])
-    requires { ⌜ length (now c) ≡ 13 ⌝ }
+    requires { ⌜ length (now c) ≡ 17 ⌝ }
 {
     let width = slots::number::get32(c, 1);
     let height = slots::number::get32(c, 5);
     let depth = slots::number::get32(c, 9);
+    let profile = slots::number::get32(c, 13);
     saying::word(b"clear");
-    saying::value(router::clear(s, width, height, depth));
+    saying::value(router::clear(s, width, height, depth, profile));
     saying::end();
 }
 

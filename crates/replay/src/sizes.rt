@@ -9,7 +9,7 @@ pub fn size_of(letter: u8) -> usize
     match letter {
         b'L' => 5,
         b'S' => 6,
-        b'C' => 13,
+        b'C' => 17,
         b'T' => 11,
         b'M' => 9,
         b'P' => 5,

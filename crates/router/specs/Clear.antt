@@ -1,5 +1,5 @@
--- Clear (width, height, depth): 8, then 9 if the slice is shorter than the table. Depth 0 means 5; the trailer always holds the depth used.
--- The table's bytes become zeros and the fresh trailer; the bytes before it stay.
+-- Clear (width, height, depth, profile): 8, then 9 if the slice is shorter than the table (document 01; document 02, order 2, the profile). Depth 0
+-- means 5; the trailer always holds the depth used. The table's bytes become zeros and the fresh trailer; the bytes before it stay.
 -- Assumes nothing.
 use Prim.Native.Nat.{ℕ, _-_}
 use mathlib.Core.Bool.{not, cond}
@@ -14,8 +14,8 @@ use Rattle.table.specs.Refusals.{Row, row, sizes-not-accepted, wrong-length}
 use Rattle.table.specs.Calls.{Outcome, outcome, answered}
 
 -- the board asked for
-abbrev pub asked : ℕ → ℕ → ℕ → Board
-asked width height depth = record { width = width; height = height; depth = depth }
+abbrev pub asked : ℕ → ℕ → ℕ → ℕ → Board
+asked width height depth profile = record { width = width; height = height; depth = depth; profile = profile }
 
 abbrev pub depthLeftOut : ℕ
 depthLeftOut = 5
@@ -25,7 +25,7 @@ depthUsed depth = cond (eqb depth 0) depthLeftOut depth
 
 -- the board made
 abbrev pub used : Board → Board
-used b = asked (b .width) (b .height) (depthUsed (b .depth))
+used b = asked (b .width) (b .height) (depthUsed (b .depth)) (b .profile)
 
 abbrev pub clearRows : List ℕ → Board → List Row
 clearRows s b =

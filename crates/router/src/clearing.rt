@@ -32,9 +32,9 @@ fn clear_as(s: &mut [u8], b: Board) -> u32
 }
 
 // Makes the slice's last part a fresh table; depth 0 means 5.
-// Refusals: 8 where a size is not accepted, 9 where the slice is shorter than the table.
-pub fn clear(s: &mut [u8], width: u32, height: u32, depth: u32) -> u32
-    ensures { λ r. ⌜ outcome r (now (s .exit)) ≡ clearedSlice (now (s .entry)) (asked width height depth) ⌝ }
+// Refusals: 8 where a size or the profile is not accepted, 9 where the slice is shorter than the table.
+pub fn clear(s: &mut [u8], width: u32, height: u32, depth: u32, profile: u32) -> u32
+    ensures { λ r. ⌜ outcome r (now (s .exit)) ≡ clearedSlice (now (s .entry)) (asked width height depth profile) ⌝ }
 {
     let depth = depth_used(depth);
     clear_as(
@@ -43,6 +43,7 @@ pub fn clear(s: &mut [u8], width: u32, height: u32, depth: u32) -> u32
             width: width as usize,
             height: height as usize,
             depth,
+            profile: profile as usize,
         },
     )
 }

@@ -1,5 +1,5 @@
 // The tables of samples/, made by the router's own calls, one after the other on standard output: a fresh 4 by 4 of depth 2, document 01's
-// example, a busy 4 by 4, and the example with one payload byte in an empty slot.
+// example, a busy 4 by 4, a 4 by 4 of profile 2 with packets under way, and the example with one payload byte in an empty slot.
 
 use survey::finding::Found;
 
@@ -9,12 +9,12 @@ fn send(t: &[u8]) {
 
 fn fresh() {
     let mut t = [0u8; 1296];
-    router::clear(&mut t, 4, 4, 2);
+    router::clear(&mut t, 4, 4, 2, 0);
     send(&t);
 }
 
 fn fill_example(t: &mut [u8]) {
-    router::clear(t, 2, 1, 1);
+    router::clear(t, 2, 1, 1, 0);
     router::take_in(t, 0, 1, [112, 97, 110, 101, 103, 108, 111, 118]);
 }
 
@@ -58,7 +58,7 @@ fn follow_find(t: &mut [u8], moves: u8) {
 
 fn busy() {
     let mut t = [0u8; 1296];
-    router::clear(&mut t, 4, 4, 2);
+    router::clear(&mut t, 4, 4, 2, 0);
     take_in_all(&mut t, 1);
     follow_find(&mut t, 90);
     take_in_all(&mut t, 2);
@@ -67,9 +67,18 @@ fn busy() {
     send(&t);
 }
 
+fn oblivious() {
+    let mut t = [0u8; 1296];
+    router::clear(&mut t, 4, 4, 2, 2);
+    take_in_all(&mut t, 4);
+    follow_find(&mut t, 40);
+    send(&t);
+}
+
 fn main() {
     fresh();
     example();
     busy();
+    oblivious();
     spoiled();
 }

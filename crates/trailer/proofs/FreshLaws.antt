@@ -4,7 +4,7 @@ use Prim.Native.Nat.{ℕ, _+_, _-_, _*_, _<_, _^_, zero-le}
 use mathlib.Core.Path.{_≡_, refl, sym, ap, _∙_}
 use mathlib.Core.List.{List, _++_, append-assoc}
 use native.Mathlib.Omega.{arith}
-use lib.ListN.{length, getD, take, replicate, length-append, length-replicate, replicate-append-replicate}
+use lib.ListN.{length, take, replicate, length-append, length-replicate, replicate-append-replicate}
 use lib.Seq.{drop-at, take-at}
 use Rattle.slots.specs.Bytes.{bytes32}
 use Rattle.slots.specs.Slots.{slotAt, withSlot, emptySlot}
@@ -57,10 +57,6 @@ pub head-made : {b : Board} → GoodBoard b → (taken delivered : ℕ) → take
 unfolding trailerBytes bytes32
 head-made {b} g taken delivered l m = rw (digits taken l, digits delivered m, digits (tableSize b) (omega (arith, slots-most b g)))
 
-spare-fresh : (b : Board) → getD (trailerBytes b 0 0) 3 0 ≡ 0
-unfolding trailerBytes
-spare-fresh b = refl
-
 last-fresh : (b : Board) → last16 (fresh b) ≡ trailerBytes b 0 0
 unfolding fresh
 last-fresh b =
@@ -76,7 +72,6 @@ fresh-good {b} g =
     (record {
       long = omega arith;
       read = sym (ap headOf z ∙ head-made g 0 0 (omega arith) (omega arith));
-      spare = ap (λ (v : List ℕ). getD v 3 0) z ∙ spare-fresh b;
       ranges = g;
       counts = zero-le;
       size-is = refl;

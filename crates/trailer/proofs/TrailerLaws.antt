@@ -6,7 +6,7 @@ use mathlib.Core.List.{List, _++_}
 use mathlib.Core.Bool.{Bool, true, false, cond}
 use native.Mathlib.Omega.{arith}
 use borrow.Author.Tests.{leb-true, eqb-true, le-leb, eq-eqb}
-use lib.ListN.{length, getD, drop, length-append, length-drop}
+use lib.ListN.{length, drop, length-append, length-drop}
 use lib.Seq.{drop-append-add, drop-drop}
 use Rattle.network.proofs.Tests.{both-true, clash, cond-true, and-yes}
 use Rattle.slots.specs.Slots.{withSlot}
@@ -35,15 +35,13 @@ trailer-good s {h} e =
     let a = chosen _ _ e in
     let b = chosen _ _ (a .1) in
     let q : h ≡ headOf (last16 s) = sym (good (b .1)) in
-    let ok : headOk h (getD (last16 s) 3 0) (length s) ≡ true = rw q (b .0) in
+    let ok : headOk h (length s) ≡ true = rw q (b .0) in
     let k = both-true _ _ ok in
-    let l = both-true _ _ (k .1) in
-    let m = both-true _ _ (l .1) in
+    let m = both-true _ _ (k .1) in
     let n = both-true _ _ (m .1) in
     record {
       long = leb-true _ _ (a .0);
       read = q;
-      spare = eqb-true _ _ (l .0);
       ranges = board-good _ (k .0);
       counts = leb-true _ _ (m .0);
       size-is = eqb-true _ _ (n .0);
@@ -53,10 +51,9 @@ trailer-good s {h} e =
 pub good-trailer : {s : List ℕ} {h : Head} → GoodTrailer s h → trailerOf s ≡ Good h
 unfolding headOk trailerOf
 good-trailer {s} g =
-    let ok : headOk (headOf (last16 s)) (getD (last16 s) 3 0) (length s) ≡ true =
-    ap (λ (x : Head). headOk x (getD (last16 s) 3 0) (length s)) (sym (g .read))
+    let ok : headOk (headOf (last16 s)) (length s) ≡ true =
+    ap (λ (x : Head). headOk x (length s)) (sym (g .read))
     ∙ and-yes (good-board (g .ranges))
-    ∙ and-yes (eq-eqb _ _ (g .spare))
     ∙ and-yes (le-leb _ _ (g .counts))
     ∙ and-yes (eq-eqb _ _ (g .size-is))
     ∙ le-leb _ _ (g .size-in) in
@@ -75,7 +72,6 @@ trailer-moved s u e d l =
     (record {
       long = omega arith;
       read = g .read ∙ ap headOf (sym d);
-      spare = ap (λ (z : List ℕ). getD z 3 0) d ∙ g .spare;
       ranges = g .ranges;
       counts = g .counts;
       size-is = g .size-is;

@@ -1,4 +1,4 @@
--- What tells a trailer: a number of it and the bytes on both sides; or its head and byte 3.
+-- What tells a trailer: a number of it and the bytes on both sides; or its head.
 -- Assumes nothing.
 use Prim.Native.Nat.{ℕ, _+_, _-_, _≤_}
 use mathlib.Core.Path.{_≡_, sym, ap, _∙_}
@@ -28,12 +28,13 @@ last-told u w b c l m at n first number rest =
     halves at (last16 u) (last16 w) first
     (number-same (last16 u) (last16 w) (bytes-last u b) (bytes-last w c) at (omega arith) (omega arith) number rest)
 
--- a trailer is told by its head and byte 3
-pub trailer-told : (v w : List ℕ) → length v ≡ 16 → length w ≡ 16 → Bytes v → Bytes w → headOf v ≡ headOf w → getD v 3 0 ≡ getD w 3 0 → v ≡ w
-trailer-told v w l m b c h e3 =
+-- a trailer is told by its head
+pub trailer-told : (v w : List ℕ) → length v ≡ 16 → length w ≡ 16 → Bytes v → Bytes w → headOf v ≡ headOf w → v ≡ w
+trailer-told v w l m b c h =
     let e0 : getD v 0 0 ≡ getD w 0 0 = ap (λ (x : Head). x .board .width) h in
     let e1 : getD v 1 0 ≡ getD w 1 0 = ap (λ (x : Head). x .board .height) h in
     let e2 : getD v 2 0 ≡ getD w 2 0 = ap (λ (x : Head). x .board .depth) h in
+    let e3 : getD v 3 0 ≡ getD w 3 0 = ap (λ (x : Head). x .board .profile) h in
     let first : take 4 v ≡ take 4 w =
     sym (one-by-one v 0 4 (omega arith)) ∙ (λ i. e0 i ∷ e1 i ∷ e2 i ∷ e3 i ∷ []) ∙ one-by-one w 0 4 (omega arith) in
     let none : drop 16 v ≡ drop 16 w = ap (λ (n : ℕ). drop n v) (sym l) ∙ drop-length v ∙ sym (drop-length w) ∙ ap (λ (n : ℕ). drop n w) m in

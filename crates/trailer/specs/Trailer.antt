@@ -1,5 +1,5 @@
--- The trailer (document 01, "The table and its trailer"): byte 0 width, 1 height, 2 depth, 3 zero; 4 to 7 taken, 8 to 11 delivered, 12 to
--- 15 the distance back to the table's first byte.
+-- The trailer (document 01, "The table and its trailer"): byte 0 width, 1 height, 2 depth, 3 the profile (document 02, order 2); 4 to 7 taken, 8 to
+-- 11 delivered, 12 to 15 the distance back to the table's first byte.
 -- Assumes nothing.
 use Prim.Native.Nat.{ℕ, _*_, _-_, _≤_}
 use mathlib.Core.Path.{_≡_}
@@ -16,22 +16,21 @@ use Rattle.trailer.specs.declared.Headed.{Headed}
 use Rattle.trailer.specs.declared.Headed.the-variants.{Good, Bad}
 
 abbrev pub boardOf : List ℕ → Board
-boardOf z = record { width = getD z 0 0; height = getD z 1 0; depth = getD z 2 0 }
+boardOf z = record { width = getD z 0 0; height = getD z 1 0; depth = getD z 2 0; profile = getD z 3 0 }
 
 abbrev pub headOf : List ℕ → Head
 headOf z = record { board = boardOf z; taken = le32 z 4; delivered = le32 z 8; size = le32 z 12 }
 
--- the ranges hold, byte 3 is zero, delivered is at most taken, and the distance equals 16 × S + 16 and is at most the slice's length, n
-unfoldable pub headOk : Head → ℕ → ℕ → Bool
-headOk h spare n =
+-- the ranges hold, delivered is at most taken, and the distance equals 16 × S + 16 and is at most the slice's length, n
+unfoldable pub headOk : Head → ℕ → Bool
+headOk h n =
     boardOk (h .board)
-    && (eqb spare 0
     && (leb (h .delivered) (h .taken)
     && (eqb (h .size) (tableSize (h .board))
-    && leb (h .size) n)))
+    && leb (h .size) n))
 
 abbrev pub trailerIn : List ℕ → ℕ → Headed
-trailerIn z n = cond (headOk (headOf z) (getD z 3 0) n) (Good (headOf z)) Bad
+trailerIn z n = cond (headOk (headOf z) n) (Good (headOf z)) Bad
 
 -- the slice has at least 16 bytes, and the last 16 are good
 unfoldable pub trailerOf : List ℕ → Headed
@@ -45,7 +44,6 @@ last16 s = drop (length s - 16) s
 pub record GoodTrailer (s : List ℕ) (h : Head) : Type 0 where
   pub long : 16 ≤ length s
   pub read : h ≡ headOf (last16 s)
-  pub spare : getD (last16 s) 3 0 ≡ 0
   pub ranges : GoodBoard (h .board)
   pub counts : h .delivered ≤ h .taken
   pub size-is : h .size ≡ tableSize (h .board)
@@ -59,7 +57,7 @@ unfoldable pub withDelivered : List ℕ → ℕ → List ℕ
 withDelivered t n = put t (length t - 8) (bytes32 n)
 
 unfoldable pub trailerBytes : Board → ℕ → ℕ → List ℕ
-trailerBytes b taken delivered = b .width ∷ b .height ∷ b .depth ∷ 0 ∷ (bytes32 taken ++ (bytes32 delivered ++ bytes32 (tableSize b)))
+trailerBytes b taken delivered = b .width ∷ b .height ∷ b .depth ∷ b .profile ∷ (bytes32 taken ++ (bytes32 delivered ++ bytes32 (tableSize b)))
 
 -- a fresh table: zeros and the fresh trailer
 unfoldable pub fresh : Board → List ℕ

@@ -28,6 +28,7 @@ fn board_of(z: &[u8]) -> Board
         width: slots::wide(z[0]),
         height: slots::wide(z[1]),
         depth: slots::wide(z[2]),
+        profile: slots::wide(z[3]),
     }
 }
 
@@ -43,15 +44,12 @@ fn head_of(z: &[u8]) -> Head
     }
 }
 
-// Is the trailer good, its byte 3 being `spare`, in a slice of `n` bytes?
-fn head_ok(h: Head, spare: u8, n: usize) -> bool
-    ensures { λ r. ⌜ r ≡ headOk h spare n ⌝ }
+// Is the trailer good in a slice of `n` bytes?
+fn head_ok(h: Head, n: usize) -> bool
+    ensures { λ r. ⌜ r ≡ headOk h n ⌝ }
 {
     let b = h.board;
     if !board::board_ok(b) {
-        return false;
-    }
-    if spare != 0 {
         return false;
     }
     if h.taken < h.delivered {
@@ -74,7 +72,7 @@ pub fn trailer(s: &[u8]) -> Headed
     let at = n - 16;
     let z = &s[at..];
     let h = head_of(z);
-    if head_ok(h, z[3], n) {
+    if head_ok(h, n) {
         return Headed::Good(h);
     }
     Headed::Bad
@@ -118,7 +116,8 @@ fn fresh_trailer(b: Board) -> [u8; 16]
     let w = byte(b.width);
     let h = byte(b.height);
     let c = byte(b.depth);
-    [w, h, c, 0, 0, 0, 0, 0, 0, 0, 0, 0, b0, b1, b2, b3]
+    let p = byte(b.profile);
+    [w, h, c, p, 0, 0, 0, 0, 0, 0, 0, 0, b0, b1, b2, b3]
 }
 
 // Makes `t`, of the table's length, a fresh table. The trailer lies where one more slot would.

@@ -5,6 +5,7 @@ use super::super::*;
 pub struct Board {
     pub slice: Vec<u8>,
     pub grid: Grid,
+    pub profile: Profile,
 }
 
 pub fn at(x: u8, y: u8) -> Node {
@@ -34,18 +35,32 @@ impl Board {
         Board::after(&[], width, height, depth)
     }
 
+    pub fn of(profile: Profile, width: u32, height: u32, depth: u32) -> Board {
+        let mut board = Board::new(width, height, depth);
+        let number = profile.number().into();
+        let answer = clear(&mut board.slice, width, height, depth, number);
+        assert_eq!(answer, Ok(()));
+        Board { profile, ..board }
+    }
+
     pub fn after(prefix: &[u8], width: u32, height: u32, depth: u32) -> Board {
         let used = if depth == 0 { 5 } else { depth };
         let grid = Grid::new(width, height, used).unwrap();
         let mut slice = prefix.to_vec();
         slice.resize(prefix.len() + grid.table_bytes(), 0xAA);
-        assert_eq!(clear(&mut slice, width, height, depth), Ok(()));
-        Board { slice, grid }
+        assert_eq!(clear(&mut slice, width, height, depth, 0), Ok(()));
+        let profile = Profile::Full;
+        Board {
+            slice,
+            grid,
+            profile,
+        }
     }
 
     pub fn set_counts(&mut self, taken: u32, delivered: u32) {
         let trailer = Trailer {
             grid: self.grid,
+            profile: self.profile,
             taken,
             delivered,
         };

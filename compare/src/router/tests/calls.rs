@@ -83,6 +83,6 @@ fn no_slice_of_random_bytes_makes_a_call_panic() {
         let _ = read_payload(&slice, number);
         let _ = make_move(&mut slice, number, number % 9);
         let _ = take_in(&mut slice, number as u8, 3, [1; 8]);
-        let _ = clear(&mut slice, number % 20, number % 3, number);
+        let _ = clear(&mut slice, number % 20, number % 3, number, number % 5);
     }
 }

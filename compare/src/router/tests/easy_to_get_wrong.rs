@@ -33,7 +33,7 @@ fn three_a_spoiled_slot_is_never_empty() {
     board.slot_mut(queue.start)[15] = 1;
     let mut both = Board {
         slice: board.slice.clone(),
-        grid: board.grid,
+        ..board
     };
     both.slot_mut(queue.start + 1)[3] = 1;
     assert_eq!(both.refused(|slice| make_move(slice, slot, 2)), 6);

@@ -5,7 +5,7 @@ use super::board::{at, place, Board};
 
 fn cleared(length: usize, width: u32, height: u32, depth: u32) -> u32 {
     let mut slice = vec![0; length];
-    let answer = clear(&mut slice, width, height, depth);
+    let answer = clear(&mut slice, width, height, depth, 0);
     answer.err().map_or(0, Refusal::number)
 }
 
@@ -46,7 +46,7 @@ fn slot_20_is_the_b_slot_of_node_6() {
 }
 
 fn codes(place: Place, destination: Node) -> Vec<u32> {
-    let offers = |code: &u32| offered(place, destination, *code).is_some();
+    let offers = |code: &u32| offered(Profile::Full, place, destination, *code).is_some();
     (0..=9).filter(offers).collect()
 }
 

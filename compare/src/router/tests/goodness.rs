@@ -16,7 +16,12 @@ fn a_trailer_with_one_condition_broken_is_not_good() {
     for (number, byte) in [(0, 0), (0, 3), (1, 0), (1, 17), (2, 0), (2, 8), (2, 2)] {
         assert!(!trailer_good(|board| board.set_trailer_byte(number, byte)));
     }
-    assert!(!trailer_good(|board| board.set_trailer_byte(3, 1)));
+    for byte in [3, 4, 128, 255] {
+        assert!(!trailer_good(|board| board.set_trailer_byte(3, byte)));
+    }
+    for byte in [0, 1, 2] {
+        assert!(trailer_good(|board| board.set_trailer_byte(3, byte)));
+    }
     assert!(!trailer_good(|board| board.set_trailer_byte(8, 6)));
     assert!(trailer_good(|board| board.set_trailer_byte(8, 4)));
     for (number, byte) in [(12, 0x2F), (12, 0x31), (12, 0x20), (13, 2), (15, 1)] {

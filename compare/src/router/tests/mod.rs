@@ -1,4 +1,4 @@
-//! The second router against the cases of document 01.
+//! The second router against the cases of documents 01 and 02.
 
 mod board;
 mod calls;
@@ -7,5 +7,6 @@ mod easy_to_get_wrong;
 mod edges;
 mod goodness;
 mod left;
+mod profiles;
 mod refusals;
 mod rule_rows;

@@ -15,10 +15,10 @@ fn reading(board: &mut Board, slot: u32) -> u32 {
     board.refused(|slice| read_payload(slice, slot).map(drop))
 }
 
-fn clearing(length: usize, sizes: [u32; 3]) -> u32 {
+fn clearing(length: usize, board: [u32; 4]) -> u32 {
     let mut slice = vec![0x55; length];
-    let [width, height, depth] = sizes;
-    let number = clear(&mut slice, width, height, depth);
+    let [width, height, depth, profile] = board;
+    let number = clear(&mut slice, width, height, depth, profile);
     let number = number.err().map_or(0, Refusal::number);
     assert!(number == 0 || slice.iter().all(|byte| *byte == 0x55));
     number
@@ -28,21 +28,27 @@ fn clearing(length: usize, sizes: [u32; 3]) -> u32 {
 fn clear_answers_8_before_9() {
     let huge = [17, 256, 257, 65_537, 1 << 31, u32::MAX];
     for number in huge.into_iter().chain([0]) {
-        assert_eq!(clearing(0, [number, 1, 1]), 8);
-        assert_eq!(clearing(65_536, [1, number, 1]), 8);
+        assert_eq!(clearing(0, [number, 1, 1, 0]), 8);
+        assert_eq!(clearing(65_536, [1, number, 1, 0]), 8);
     }
     for depth in huge.into_iter().chain([8]) {
-        assert_eq!(clearing(65_536, [1, 1, depth]), 8);
+        assert_eq!(clearing(65_536, [1, 1, depth, 0]), 8);
     }
-    assert_eq!(clearing(0, [1, 1, 1]), 9);
-    assert_eq!(clearing(63, [1, 1, 1]), 9);
-    assert_eq!(clearing(64, [1, 1, 1]), 0);
+    for profile in huge.into_iter().chain([3]) {
+        assert_eq!(clearing(65_536, [1, 1, 1, profile]), 8);
+        assert_eq!(clearing(63, [1, 1, 1, profile]), 8);
+    }
+    for profile in [0, 1, 2] {
+        assert_eq!(clearing(0, [1, 1, 1, profile]), 9);
+        assert_eq!(clearing(63, [1, 1, 1, profile]), 9);
+        assert_eq!(clearing(64, [1, 1, 1, profile]), 0);
+    }
 }
 
 #[test]
 fn taking_in_answers_1_2_7_6_in_that_order() {
     let mut board = Board::new(2, 3, 1);
-    board.set_trailer_byte(3, 1);
+    board.set_trailer_byte(3, 3);
     assert_eq!(taking(&mut board, 0x02, 0x00), 1);
     board.set_trailer_byte(3, 0);
     assert_eq!(taking(&mut board, 0x00, 0x21), 0);
@@ -126,7 +132,7 @@ fn find_and_the_copy_check_first() {
     board.set_counts(1, 0);
     assert_eq!(board.refused(|slice| find(slice)), 10);
     assert_eq!(copying(&mut board, 111), 10);
-    board.set_trailer_byte(3, 1);
+    board.set_trailer_byte(3, 3);
     assert_eq!(board.refused(|slice| find(slice)), 1);
     assert_eq!(copying(&mut board, 111), 1);
 }

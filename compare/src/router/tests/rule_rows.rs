@@ -1,4 +1,4 @@
-//! The rule's table row by row, against sets of signs rather than the router's own conditions.
+//! The rule's table row by row, in profile 0, against sets of signs rather than the router's own conditions.
 
 use super::super::*;
 use super::board::place;
@@ -15,7 +15,7 @@ fn offer(kind: Kind, across: Ordering, along: Ordering, code: u32) -> Option<Ste
         x: coordinate(across),
         y: coordinate(along),
     };
-    offered(place(1, 1, kind), destination, code)
+    offered(Profile::Full, place(1, 1, kind), destination, code)
 }
 
 fn assert_row(kind: Kind, code: u32, step: Step, when: &[(Ordering, Ordering)]) {

@@ -29,12 +29,25 @@ within-requires-3 c κs = search needs
 returns-3 : tie.Need-returns-3
 unfolding boardOk
 returns-3 c =
-    let h = c .before in
+    let h = c .before .before in
     let w = h .before .before in
-    c .within3 .ensures
-    ∙ sym (and-yes (not-failed (w .before .within .ensures) (w .if1 .left)) ∙ and-yes (not-failed (h .before .within2 .ensures) (h .if2 .left)))
+    sym
+    (and-yes (not-failed (w .before .within .ensures) (w .if1 .left))
+    ∙ and-yes (not-failed (h .before .within2 .ensures) (h .if2 .left))
+    ∙ and-no _ (not-held (c .before .within3 .ensures) (c .if3 .taken)))
+
+returns-4 : tie.Need-returns-4
+unfolding boardOk
+returns-4 c =
+    let d = c .before in
+    let h = d .before .before in
+    let w = h .before .before in
+    sym
+    (and-yes (not-failed (w .before .within .ensures) (w .if1 .left))
+    ∙ and-yes (not-failed (h .before .within2 .ensures) (h .if2 .left))
+    ∙ and-yes (not-failed (d .before .within3 .ensures) (d .if3 .left)))
 
 pub board-ok-spec : {M : Type 1} → statement M
 board-ok-spec =
     tie.close
-    (tie.spec within-requires returns within-requires-2 returns-2 within-requires-3 returns-3)
+    (tie.spec within-requires returns within-requires-2 returns-2 within-requires-3 returns-3 returns-4)

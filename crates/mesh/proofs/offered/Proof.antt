@@ -53,6 +53,9 @@ in-each-requires-6 c κs = search needs
 enum-told-7 : tie.Need-enum-told-7
 enum-told-7 c = search needs
 
+arrived-requires : tie.Need-arrived-requires
+arrived-requires c κs = search needs
+
 in-each-requires-7 : tie.Need-in-each-requires-7
 in-each-requires-7 c κs = search needs
 
@@ -78,7 +81,7 @@ returns-6 : tie.Need-returns-6
 returns-6 c = c .in-each6 .ensures ∙ rw (c .before .enum-told6 .given .1)
 
 returns-7 : tie.Need-returns-7
-returns-7 c = c .in-each7 .ensures ∙ rw (c .before .enum-told7 .given .1)
+returns-7 c = c .in-each7 .ensures ∙ rw (c .before .before .enum-told7 .given .1, c .before .arrived .ensures)
 
 returns-8 : tie.Need-returns-8
 returns-8 c = rw (c .enum-told8 .given .1) (nowhere (c .before .before .args .kind))
@@ -100,6 +103,7 @@ offered-spec =
     enum-told-6
     in-each-requires-6
     enum-told-7
+    arrived-requires
     in-each-requires-7
     enum-told-8
     returns

@@ -1,4 +1,4 @@
--- `trailer::board_of` meets its contract: the sizes are the first three bytes.
+-- `trailer::board_of` meets its contract: the sizes and the profile are the first four bytes.
 -- Assumes nothing.
 use borrow.Author.Needs.{needs}
 use Rattle.trailer.proofs.board_of.Statement.{statement}
@@ -22,6 +22,12 @@ shared-slice-read-wide-3 c = search needs
 wide-requires-3 : tie.Need-wide-requires-3
 wide-requires-3 c κs = search needs
 
+shared-slice-read-wide-4 : tie.Need-shared-slice-read-wide-4
+shared-slice-read-wide-4 c = search needs
+
+wide-requires-4 : tie.Need-wide-requires-4
+wide-requires-4 c κs = search needs
+
 returns : tie.Need-returns
 returns c = cc
 
@@ -35,4 +41,6 @@ board-of-spec =
     wide-requires-2
     shared-slice-read-wide-3
     wide-requires-3
+    shared-slice-read-wide-4
+    wide-requires-4
     returns)

@@ -30,6 +30,9 @@ byte-requires-2 c κs = search needs
 byte-requires-3 : tie.Need-byte-requires-3
 byte-requires-3 c κs = search needs
 
+byte-requires-4 : tie.Need-byte-requires-4
+byte-requires-4 c κs = search needs
+
 returns : tie.Need-returns
 unfolding trailerBytes bytes32
 returns c = cc
@@ -46,4 +49,5 @@ fresh-trailer-spec =
     byte-requires
     byte-requires-2
     byte-requires-3
+    byte-requires-4
     returns)

@@ -19,50 +19,36 @@ returns c = sym (and-no _ (not-held (c .before .board-ok .ensures) (c .if1 .take
 returns-2 : tie.Need-returns-2
 unfolding headOk
 returns-2 c =
-    let a = c .before in
-    sym (and-yes (not-failed (a .before .board-ok .ensures) (a .if1 .left)) ∙ and-no _ (ne-eqb _ _ (c .if2 .taken)))
+    let a = c .before .before in
+    sym (and-yes (not-failed (a .before .board-ok .ensures) (a .if1 .left)) ∙ and-no _ (lt-leb _ _ (c .if2 .taken)))
+
+table-size-requires : tie.Need-table-size-requires
+table-size-requires c κs =
+    let a = c .before .before in
+    board-good _ (not-failed (a .before .board-ok .ensures) (a .if1 .left))
 
 returns-3 : tie.Need-returns-3
 unfolding headOk
 returns-3 c =
-    let b = c .before .before in
-    let a = b .before in
+    let d = c .before .before .before in
+    let a = d .before .before in
     sym
     (and-yes (not-failed (a .before .board-ok .ensures) (a .if1 .left))
-    ∙ and-yes (eq-eqb _ _ (b .if2 .left))
-    ∙ and-no _ (lt-leb _ _ (c .if3 .taken)))
-
-table-size-requires : tie.Need-table-size-requires
-table-size-requires c κs =
-    let a = c .before .before .before in
-    board-good _ (not-failed (a .before .board-ok .ensures) (a .if1 .left))
+    ∙ and-yes (le-leb _ _ (d .if2 .left))
+    ∙ and-no _ (ne-eqb _ _ (λ q. c .if3 .taken (q ∙ sym (c .before .before .table-size .ensures)))))
 
 returns-4 : tie.Need-returns-4
 unfolding headOk
 returns-4 c =
-    let d = c .before .before .before in
-    let b = d .before .before in
-    let a = b .before in
-    sym
-    (and-yes (not-failed (a .before .board-ok .ensures) (a .if1 .left))
-    ∙ and-yes (eq-eqb _ _ (b .if2 .left))
-    ∙ and-yes (le-leb _ _ (d .if3 .left))
-    ∙ and-no _ (ne-eqb _ _ (λ q. c .if4 .taken (q ∙ sym (c .before .before .table-size .ensures)))))
-
-returns-5 : tie.Need-returns-5
-unfolding headOk
-returns-5 c =
     let z = c .before .before .before in
     let d = z .before in
-    let b = d .before .before in
-    let a = b .before in
+    let a = d .before .before in
     sym
     (and-yes (not-failed (a .before .board-ok .ensures) (a .if1 .left))
-    ∙ and-yes (eq-eqb _ _ (b .if2 .left))
-    ∙ and-yes (le-leb _ _ (d .if3 .left))
-    ∙ and-yes (eq-eqb _ _ (c .before .if4 .left ∙ z .table-size .ensures)))
+    ∙ and-yes (le-leb _ _ (d .if2 .left))
+    ∙ and-yes (eq-eqb _ _ (c .before .if3 .left ∙ z .table-size .ensures)))
 
 pub head-ok-spec : {M : Type 1} → statement M
 head-ok-spec =
     tie.close
-    (tie.spec board-ok-requires returns returns-2 returns-3 table-size-requires returns-4 returns-5)
+    (tie.spec board-ok-requires returns returns-2 table-size-requires returns-3 returns-4)

@@ -6,7 +6,7 @@ use mathlib.Core.Bool.{Bool}
 use mathlib.Core.List.{List}
 use borrow.Author.Needs.{needs}
 use borrow.Author.Tests.{lt-leb, le-leb}
-use lib.ListN.{length, getD, take}
+use lib.ListN.{length, take}
 use Rattle.network.proofs.Tests.{held, failed, cond-true, cond-false}
 use Rattle.slots.proofs.Parts.{lent-rest}
 use Rattle.trailer.specs.declared.Head.{Head}
@@ -18,12 +18,12 @@ use Rattle.trailer.proofs.trailer.Tie as tie
 -- what the calls say of the part lent, said of the last 16 bytes
 said : (s : List ℕ) (h : Head) (r : Bool)
     → h ≡ headOf (take (length s - (length s - 16)) (last16 s))
-    → r ≡ headOk h (getD (take (length s - (length s - 16)) (last16 s)) 3 0) (length s)
-    → (h ≡ headOf (last16 s)) × (r ≡ headOk (headOf (last16 s)) (getD (last16 s) 3 0) (length s))
+    → r ≡ headOk h (length s)
+    → (h ≡ headOf (last16 s)) × (r ≡ headOk (headOf (last16 s)) (length s))
 said s h r e f =
     let l = lent-rest s (length s - 16) in
     let e′ : h ≡ headOf (last16 s) = e ∙ ap headOf l in
-    (e′, f ∙ rw (l, e′))
+    (e′, f ∙ ap (λ (x : Head). headOk x (length s)) e′)
 
 returns : tie.Need-returns
 unfolding trailerOf
@@ -41,16 +41,13 @@ part-z-end c = search needs
 head-of-requires : tie.Need-head-of-requires
 head-of-requires c κs = search needs
 
-shared-slice-read-head-ok : tie.Need-shared-slice-read-head-ok
-shared-slice-read-head-ok c = search needs
-
 head-ok-requires : tie.Need-head-ok-requires
 head-ok-requires c κs = search needs
 
 returns-2 : tie.Need-returns-2
 unfolding trailerOf
 returns-2 c =
-    let a = c .before .before .before in
+    let a = c .before .before in
     let b = a .before .before in
     let q = said (b .before .before .args .s .now) _ _ (a .head-of .ensures) (c .before .head-ok .ensures) in
     ap Good (q .0) ∙ sym (cond-true _ _ (le-leb _ _ (b .if1 .left)) ∙ cond-true _ _ (held (q .1) (c .if2 .taken)))
@@ -58,7 +55,7 @@ returns-2 c =
 returns-3 : tie.Need-returns-3
 unfolding trailerOf
 returns-3 c =
-    let a = c .before .before .before in
+    let a = c .before .before in
     let b = a .before .before in
     let q = said (b .before .before .args .s .now) _ _ (a .head-of .ensures) (c .before .head-ok .ensures) in
     sym (cond-true _ _ (le-leb _ _ (b .if1 .left)) ∙ cond-false _ _ (failed (q .1) (c .if2 .left)))
@@ -72,7 +69,6 @@ trailer-spec =
     part-z-start
     part-z-end
     head-of-requires
-    shared-slice-read-head-ok
     head-ok-requires
     returns-2
     returns-3)

@@ -21,7 +21,8 @@ unfolding clearedSlice
 returns c =
     let d = c .before .before .before .before in
     let a = d .before .before .args in
-    c .before .before .clear-as .ensures ∙ ap (λ (depth : ℕ). clearedAs (a .s .now) (asked (a .width) (a .height) depth)) (d .depth-used .ensures)
+    c .before .before .clear-as .ensures
+    ∙ ap (λ (depth : ℕ). clearedAs (a .s .now) (asked (a .width) (a .height) depth (a .profile))) (d .depth-used .ensures)
 
 pub clear-spec : {M : Type 1} → statement M
 clear-spec = tie.close (tie.spec depth-used-requires clear-as-requires same-length returns)
