@@ -17,9 +17,9 @@ use Rattle.table.proofs.QueueLaws.{room-lowest, room-within, room-there, emptie
 use Rattle.judging.specs.Verdicts.{intoQueue}
 
 -- counted in any table where that slot is held and the queue's others are as they were
-pub left-after : (b : Board) (g : GoodBoard b) (p : Place) (on : netOf b .valid (p .node) ≡ true) (t u : List ℕ) (k hops : ℕ) → roomAt b t p ≡ At k
+pub verdict-left : (b : Board) (g : GoodBoard b) (p : Place) (on : netOf b .valid (p .node) ≡ true) (t u : List ℕ) (k hops : ℕ) → roomAt b t p ≡ At k
     → emptyAt u k ≡ false → ((i : ℕ) → i < layoutOf b .size → layoutOf b .placeOf i ≡ p → i ≢ k → slotAt u i ≡ slotAt t i)
     → intoQueue b t p hops .left ≡ emptiesAt b u p
-left-after b g p on t u k hops e held rest =
+verdict-left b g p on t u k hops e held rest =
     rw e
     (omega (arith, empties-more b g p on u t k (room-within b t p k e g on) (room-there b t p k e g on) held (room-lowest b t p k e .has) rest))
