@@ -1,6 +1,6 @@
 /*
  * A repair counter's use of Paneglove, once for each profile: clear a 4 by 4 board, take packets in, list the table, show it to outsiders, follow
- * find until nothing is held, and list it again.
+ * find until nothing is held, and list it again. At the end a packet in A gives way to one in B.
  * It prints each answer and exits 1 if anything is not as promised.
  *
  *     rt staticlib paneglove
@@ -245,6 +245,21 @@ static unsigned try_left(uint32_t profile) {
     return 1;
 }
 
+/* From (3,0) a packet to (0,3) is offered the hop to the left in A, and one to (0,0) the same hop in B. */
+static void give_way(void) {
+    uint32_t waiting = 3 * NODE_SLOTS, in_a, in_b;
+    expect(clear(PANEGLOVE_PROFILE_FULL) == PANEGLOVE_ACCEPTED, "a board is cleared again");
+    take_in(PANEGLOVE_NODE(3, 0), PANEGLOVE_NODE(0, 3), "dynamic.");
+    in_a = make_move(waiting, PANEGLOVE_ENTER).slot;
+    take_in(PANEGLOVE_NODE(3, 0), PANEGLOVE_NODE(0, 0), "static..");
+    in_b = make_move(waiting, PANEGLOVE_ENTER).slot;
+    remember();
+    expect(refused_by(PANEGLOVE_GIVES_WAY, make_move(in_a, PANEGLOVE_LEFT)), "a packet in A gives way to one in B that goes over the same link");
+    expect(unchanged(), "a refusal changes no byte");
+    expect(make_move(in_b, PANEGLOVE_LEFT).number == PANEGLOVE_ACCEPTED, "the packet in B goes first");
+    expect(make_move(in_a, PANEGLOVE_LEFT).number == PANEGLOVE_ACCEPTED, "once it has gone, the packet in A goes too");
+}
+
 /* A packet handed out is one of the trips, by its serial; it has been delivered once, after as many hops as its distance. */
 static void receive(const uint8_t *packet, int *delivered) {
     const struct trip *trip;
@@ -326,6 +341,7 @@ int main(void) {
     for (i = 0; i < BOARDS; i++) {
         use(&boards[i]);
     }
+    give_way();
     expect(check(NULL, 0) == PANEGLOVE_TRAILER, "no bytes have no trailer");
     return broken;
 }

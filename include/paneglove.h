@@ -24,17 +24,18 @@ extern "C" {
 
 enum {
     PANEGLOVE_ACCEPTED = 0,
-    PANEGLOVE_TRAILER = 1,      /* the trailer is not good */
-    PANEGLOVE_OUT_OF_RANGE = 2, /* no such slot, no such code, or a coordinate off the grid */
-    PANEGLOVE_EMPTY = 3,        /* the named slot is empty */
-    PANEGLOVE_SPOILED = 4,      /* the named slot is spoiled */
-    PANEGLOVE_NOT_OFFERED = 5,  /* the rule doesn't offer the move */
-    PANEGLOVE_NO_ROOM = 6,      /* the target queue, or the source's waiting slot, has no empty slot */
-    PANEGLOVE_ALL_TAKEN = 7,    /* 4,294,967,295 packets have been taken in */
-    PANEGLOVE_SIZES = 8,        /* width, height, depth or profile is not accepted */
-    PANEGLOVE_BUFFER = 9,       /* a buffer of the wrong length */
-    PANEGLOVE_FAULT = 10,       /* the full check failed; the place is named */
-    PANEGLOVE_NOTHING_HELD = 11 /* no slot is held */
+    PANEGLOVE_TRAILER = 1,       /* the trailer is not good */
+    PANEGLOVE_OUT_OF_RANGE = 2,  /* no such slot, no such code, or a coordinate off the grid */
+    PANEGLOVE_EMPTY = 3,         /* the named slot is empty */
+    PANEGLOVE_SPOILED = 4,       /* the named slot is spoiled */
+    PANEGLOVE_NOT_OFFERED = 5,   /* the rule doesn't offer the move */
+    PANEGLOVE_NO_ROOM = 6,       /* the target queue, or the source's waiting slot, has no empty slot */
+    PANEGLOVE_ALL_TAKEN = 7,     /* 4,294,967,295 packets have been taken in */
+    PANEGLOVE_SIZES = 8,         /* width, height, depth or profile is not accepted */
+    PANEGLOVE_BUFFER = 9,        /* a buffer of the wrong length */
+    PANEGLOVE_FAULT = 10,        /* the full check failed; the place is named */
+    PANEGLOVE_NOTHING_HELD = 11, /* no slot is held */
+    PANEGLOVE_GIVES_WAY = 12     /* left or down in A, while a good packet in the node's B queue is offered the same */
 };
 
 /* The codes of moves. */
@@ -127,9 +128,10 @@ paneglove_taken paneglove_take_in(uint8_t *slice, size_t length, uint8_t source,
 /*
  * Makes the proposed move of the packet in a slot, by the rule in the board's profile.
  * Refuses by 1 (trailer), 2 (no such slot, or no such code), 3 (the slot is empty), 4 (it is spoiled), 5 (the rule doesn't offer the move),
- * then 6 (the target queue has no empty slot). Answers beside 0 the packet's new slot, a packet of zeros, and how many slots of the target queue
- * are then empty; a delivery answers slot 0, the packet's 16 bytes, and how many slots are then empty in the queue that it left. A spoiled slot
- * is not empty.
+ * 12 (left or down in A, while the node's B queue holds a good packet for which the rule offers the same code, whether or not that packet has
+ * room), then 6 (the target queue has no empty slot). Answers beside 0 the packet's new slot, a packet of zeros, and how many slots of the target
+ * queue are then empty; a delivery answers slot 0, the packet's 16 bytes, and how many slots are then empty in the queue that it left. A spoiled
+ * slot is not empty.
  */
 paneglove_moved paneglove_make_move(uint8_t *slice, size_t length, uint32_t slot, uint32_t code);
 

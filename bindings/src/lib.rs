@@ -120,7 +120,8 @@ pub fn take_in(
     )
 }
 
-/// Makes the proposed move, by the rule in the board's profile. Refused by `Trailer`, `OutOfRange`, `Empty`, `Spoiled`, `NotOffered`, then `NoRoom`.
+/// Makes the proposed move, by the rule in the board's profile. Refused by `Trailer`, `OutOfRange`, `Empty`, `Spoiled`, `NotOffered`, `GivesWay` where
+/// it is code 3 or 5 in A and the node's B queue holds a good packet for which the rule offers the same code, then `NoRoom`.
 pub fn make_move(slice: &mut [u8], slot: u32, code: u32) -> Result<Moved, Refusal> {
     let a = archive::make_move(slice, slot, code);
     let done = if code == DELIVER {

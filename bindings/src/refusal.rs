@@ -5,7 +5,7 @@ use std::fmt;
 /// From the one table of refusals: the enum, and the way from a number to it and back.
 macro_rules! refusals {
     ($($number:literal $name:ident $({ $place:ident })? $words:literal;)*) => {
-        /// Why a call was refused: document 01's numbers.
+        /// Why a call was refused: the numbers of documents 01 and 02.
         #[derive(Clone, Copy, Debug, PartialEq, Eq, Hash)]
         pub enum Refusal {
             $(
@@ -55,6 +55,7 @@ refusals! {
     9 Buffer "the buffer has the wrong length";
     10 Fault { place } "the full check failed";
     11 NothingHeld "no slot is held";
+    12 GivesWay "a packet in the node's B queue goes first on the link";
 }
 
 impl fmt::Display for Refusal {
@@ -88,6 +89,7 @@ mod tests {
             Refusal::Buffer,
             Refusal::Fault { place: 5 },
             Refusal::NothingHeld,
+            Refusal::GivesWay,
         ];
         for (number, refusal) in (1..).zip(all) {
             assert_eq!(Refusal::of(number, 5), refusal);
@@ -97,14 +99,14 @@ mod tests {
 
     #[test]
     fn a_number_that_is_not_known_is_a_refusal_too() {
-        for number in [12, u32::MAX] {
+        for number in [13, u32::MAX] {
             let refusal = Refusal::of(number, 5);
             assert_eq!(refusal, Refusal::Unknown { number });
             assert_eq!(refusal.number(), number);
         }
         assert_eq!(
-            Refusal::of(12, 5).to_string(),
-            "refused by a number that is not known here: 12"
+            Refusal::of(13, 5).to_string(),
+            "refused by a number that is not known here: 13"
         );
     }
 
@@ -112,5 +114,9 @@ mod tests {
     fn words_name_the_place_of_a_fault() {
         assert_eq!(Refusal::of(10, 5).to_string(), "the full check failed at 5");
         assert_eq!(Refusal::of(11, 5).to_string(), "no slot is held");
+        assert_eq!(
+            Refusal::of(12, 5).to_string(),
+            "a packet in the node's B queue goes first on the link"
+        );
     }
 }

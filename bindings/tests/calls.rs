@@ -215,6 +215,43 @@ fn a_full_queue_refuses() {
     assert_eq!(make_move(&mut s, 1, 2), Err(Refusal::NoRoom));
 }
 
+/// A 2 by 2 board with two packets at (1,0): one to (0,1) in A, slot 4, and one to (0,0) in B, slot 5.
+fn two_for_one_link() -> [u8; 208] {
+    let mut s = [0; 208];
+    clear(&mut s, 2, 2, 1, FULL).unwrap();
+    for (destination, slot) in [(node(0, 1), 4), (node(0, 0), 5)] {
+        take_in(&mut s, node(1, 0), destination, [1; 8]).unwrap();
+        assert_eq!(make_move(&mut s, 3, 1), Ok(Moved::To { slot, left: 0 }));
+    }
+    s
+}
+
+#[test]
+fn a_packet_in_b_goes_first_on_a_link() {
+    let mut s = two_for_one_link();
+    let before = s;
+    assert_eq!(make_move(&mut s, 4, 3), Err(Refusal::GivesWay));
+    assert_eq!(s, before);
+    assert_eq!(find(&s), Ok(Found { slot: 4, code: 4 }));
+    assert_eq!(make_move(&mut s, 5, 3), Ok(Moved::To { slot: 2, left: 0 }));
+    assert_eq!(make_move(&mut s, 4, 3), Ok(Moved::To { slot: 1, left: 0 }));
+}
+
+#[test]
+fn a_packet_in_b_goes_first_without_room_and_not_where_it_is_spoiled() {
+    let mut s = two_for_one_link();
+    for (destination, slot) in [(node(0, 0), 2), (node(1, 1), 1)] {
+        take_in(&mut s, node(0, 0), destination, [1; 8]).unwrap();
+        assert_eq!(make_move(&mut s, 0, 1), Ok(Moved::To { slot, left: 0 }));
+        assert_eq!(make_move(&mut s, 5, 3), Err(Refusal::NoRoom));
+        assert_eq!(make_move(&mut s, 4, 3), Err(Refusal::GivesWay));
+    }
+    s[16 * 5] = 2;
+    assert_eq!(make_move(&mut s, 4, 3), Err(Refusal::NoRoom));
+    assert_eq!(make_move(&mut s, 1, 4), Ok(Moved::To { slot: 7, left: 0 }));
+    assert_eq!(make_move(&mut s, 4, 3), Ok(Moved::To { slot: 1, left: 0 }));
+}
+
 #[test]
 fn moves_tell_how_many_slots_are_left() {
     let mut s = [0; 256];

@@ -76,6 +76,7 @@ mod tests {
     use super::*;
     use crate::calls::SecondRouter;
     use crate::mistakes::MISTAKES;
+    use crate::usage::CALLS;
 
     fn against_itself(router: &dyn Calls, calls: u64) -> (Progress, End) {
         let campaign = Campaign {
@@ -97,9 +98,9 @@ mod tests {
     }
 
     #[test]
-    fn every_mistake_is_found() {
+    fn every_mistake_is_found_in_the_gates_calls() {
         for (name, router) in MISTAKES {
-            let (_, end) = against_itself(*router, 60_000);
+            let (_, end) = against_itself(*router, CALLS);
             assert!(matches!(end, End::Different { .. }), "{name} not found");
         }
     }

@@ -15,6 +15,7 @@ mod answer;
 mod calls;
 mod campaign;
 mod difference;
+mod gave_way;
 mod make;
 mod mistakes;
 mod moves;

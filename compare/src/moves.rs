@@ -28,9 +28,14 @@ impl Moves {
         counts.map(|(_, count)| count).sum()
     }
 
+    /// The profiles and codes of the moves that got the answer.
+    pub fn met(&self) -> impl Iterator<Item = (Profile, u32)> + '_ {
+        self.counts.keys().copied()
+    }
+
     /// Codes that there aren't.
     pub fn beyond_the_codes(&self) -> impl Iterator<Item = u32> + '_ {
-        let codes = self.counts.keys().map(|(_, code)| *code);
+        let codes = self.met().map(|(_, code)| code);
         codes.filter(|code| !CODES.contains(code))
     }
 

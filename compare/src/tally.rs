@@ -1,18 +1,20 @@
 //! How often each call gave each number, what was never given, and what never should have been.
 
+use crate::gave_way::GaveWay;
 use crate::moves::Moves;
-use crate::router::{CheckFault, Refusal};
+use crate::router::{CheckFault, Profile, Refusal};
 use crate::script::Command;
 use crate::second::Given;
 use std::collections::BTreeMap;
 use std::fmt::Write;
 use std::ops::RangeInclusive;
 
-/// The calls by their letters in a script, and the numbers that document 01 lets each of them give.
+/// The calls by their letters in a script, and the numbers that documents 01 and 02 let each of
+/// them give.
 const CALLS: &[(u8, &str, &[u32])] = &[
     (b'C', "clear", &[0, 8, 9]),
     (b'T', "take in", &[0, 1, 2, 6, 7]),
-    (b'M', "move", &[0, 1, 2, 3, 4, 5, 6]),
+    (b'M', "move", &[0, 1, 2, 3, 4, 5, 12, 6]),
     (b'P', "payload", &[0, 1, 2, 3, 4]),
     (b'F', "check", &[0, 1, 10]),
     (b'N', "find", &[0, 1, 10, 11]),
@@ -30,6 +32,7 @@ pub struct Tally {
     numbers: BTreeMap<(u8, u32), u64>,
     accepted: Moves,
     not_offered: Moves,
+    gave_way: GaveWay,
     left_by_moves: BTreeMap<usize, u64>,
     faults: [u64; FAULTS.len()],
 }
@@ -39,10 +42,12 @@ fn may_give(letter: u8, number: u32) -> bool {
     rows.any(|(call, _, can_give)| *call == letter && can_give.contains(&number))
 }
 
-fn add_move(moves: &mut Moves, given: &Given) {
-    if let (Command::Move { code, .. }, Some(profile)) = (given.command, given.profile) {
-        moves.add(profile, code);
-    }
+/// The profile and the code of a move; nothing for another call, or without a good trailer.
+fn move_of(given: &Given) -> Option<(Profile, u32)> {
+    let Command::Move { code, .. } = given.command else {
+        return None;
+    };
+    given.profile.map(|profile| (profile, code))
 }
 
 impl Tally {
@@ -56,10 +61,19 @@ impl Tally {
         if let Some(left) = given.left_by_a_move {
             *self.left_by_moves.entry(left).or_default() += 1;
         }
-        match given.refusal {
-            None => add_move(&mut self.accepted, given),
-            Some(Refusal::NotOffered) => add_move(&mut self.not_offered, given),
-            Some(Refusal::CheckFailed(fault)) => self.add_fault(fault),
+        if let Some((profile, code)) = move_of(given) {
+            self.add_move(given.refusal, profile, code);
+        }
+        if let Some(Refusal::CheckFailed(fault)) = given.refusal {
+            self.add_fault(fault);
+        }
+    }
+
+    fn add_move(&mut self, refusal: Option<Refusal>, profile: Profile, code: u32) {
+        match refusal {
+            None => self.accepted.add(profile, code),
+            Some(Refusal::NotOffered) => self.not_offered.add(profile, code),
+            Some(Refusal::GivesWay) => self.gave_way.add(profile, code),
             Some(_) => {}
         }
     }
@@ -105,6 +119,7 @@ impl Tally {
         }
         untested.extend(self.accepted.untested("accepted"));
         untested.extend(self.not_offered.untested("not offered"));
+        untested.extend(self.gave_way.untested(self.calls()));
         for slots in LEFT.filter(|slots| self.left(*slots) == 0) {
             untested.push(format!("no move left {slots} slots empty"));
         }
@@ -127,7 +142,8 @@ impl Tally {
         let left = self.left_by_moves.keys();
         let left = left.filter(|slots| !LEFT.contains(slots));
         let left = left.map(|slots| format!("a move left {slots} slots empty"));
-        numbers.chain(codes).chain(left).collect()
+        let ways = self.gave_way.unlisted();
+        numbers.chain(codes).chain(left).chain(ways).collect()
     }
 
     pub fn table(&self) -> String {
@@ -140,6 +156,7 @@ impl Tally {
         }
         text += &self.accepted.lines("accepted");
         text += &self.not_offered.lines("not offered");
+        text += &self.gave_way.line();
         let (least, most) = (LEFT.start(), LEFT.end());
         let _ = write!(text, "\nmoves that left {least} to {most} slots empty:");
         for slots in LEFT {
@@ -167,7 +184,7 @@ impl Tally {
 #[cfg(test)]
 mod tests {
     use super::*;
-    use crate::router::{Profile, CODES};
+    use crate::router::CODES;
 
     fn given(command: Command, refusal: Option<Refusal>) -> Given {
         Given {
@@ -185,6 +202,13 @@ mod tests {
         }
     }
 
+    fn gave_way(command: Command) -> Given {
+        Given {
+            profile: Some(Profile::Full),
+            ..given(command, Some(Refusal::GivesWay))
+        }
+    }
+
     #[test]
     fn counts_go_to_their_call_and_number() {
         let mut tally = Tally::default();
@@ -194,7 +218,9 @@ mod tests {
         let up = Command::Move { slot: 0, code: 4 };
         tally.add(&given(up, Some(Refusal::NotOffered)));
         tally.add(&given(up, Some(Refusal::NoEmptySlot)));
-        assert_eq!(tally.calls(), 4);
+        let left = Command::Move { slot: 0, code: 3 };
+        tally.add(&gave_way(left));
+        assert_eq!(tally.calls(), 5);
         assert_eq!((tally.count(b'N', 11), tally.count(b'M', 0)), (1, 1));
         let accepted = |profile, code| tally.accepted.count(profile, code);
         assert_eq!(accepted(Profile::Adapt, 6), 0);
@@ -202,6 +228,8 @@ mod tests {
         assert_eq!(accepted(Profile::Full, 7), 0);
         assert_eq!(accepted(Profile::Adapt, 4), 0);
         assert_eq!(tally.not_offered.count(Profile::Adapt, 4), 1);
+        assert_eq!(tally.count(b'M', 12), 1);
+        assert!(tally.table().contains("by code 3 and 5: 1 0"));
         assert_eq!((tally.left(1), tally.left(2)), (0, 1));
         assert_eq!(tally.unlisted(), Vec::<String>::new());
     }
@@ -211,7 +239,8 @@ mod tests {
         let mut tally = Tally::default();
         let before = tally.untested();
         let numbers: usize = CALLS.iter().map(|(_, _, can_give)| can_give.len()).sum();
-        let told = 2 * Profile::ALL.len() * CODES.count() + LEFT.count();
+        let gave_way = 2;
+        let told = 2 * Profile::ALL.len() * CODES.count() + gave_way + LEFT.count();
         assert_eq!(before.len(), numbers + told + FAULTS.len());
         assert!(before.contains(&"take in never answered 7".to_string()));
         assert!(before.contains(&"no move left 0 slots empty".to_string()));
@@ -228,10 +257,12 @@ mod tests {
         tally.add(&given(Command::Find, Some(Refusal::WrongLength)));
         tally.add(&moved(8, 7));
         tally.add(&moved(7, 8));
+        tally.add(&gave_way(Command::Move { slot: 0, code: 4 }));
         let named = [
             "N was answered 9",
             "a move of code 8 was accepted",
             "a move left 8 slots empty",
+            "a move of code 4 in profile 0 gave way",
         ];
         assert_eq!(tally.unlisted(), named);
     }
@@ -240,7 +271,7 @@ mod tests {
     fn the_table_has_a_row_a_call_and_a_column_a_number() {
         let tally = Tally::default();
         let table = tally.table();
-        assert_eq!(table.lines().count(), 1 + CALLS.len() + 7 + FAULTS.len());
+        assert_eq!(table.lines().count(), 1 + CALLS.len() + 8 + FAULTS.len());
         let words = |start: &str| -> Vec<String> {
             let row = table.lines().find(|line| line.starts_with(start));
             let words = row.unwrap_or_default().split_whitespace();

@@ -16,7 +16,7 @@ RUNNER, started with the words after it, runs a script from standard input (docs
 (here).
 --second runs one script from standard input on the second router and prints its lines.";
 
-const CALLS: u64 = 200_000;
+pub const CALLS: u64 = 200_000;
 const FIRST_SEED: u64 = 1;
 
 pub enum Task {

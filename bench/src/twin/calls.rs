@@ -110,6 +110,19 @@ pub fn lead(profile: u8, p: Place, destination: u8, code: u32) -> Option<Lead> {
     }
 }
 
+/// Must an offered move from there give way to a good packet in the node's B queue?
+fn gives_way(t: &[u8], h: &Head, p: Place, code: u32) -> bool {
+    if p.kind != Kind::A || !matches!(code, 3 | 5) {
+        return false;
+    }
+    let b = Place { kind: Kind::B, ..p };
+    let (first, n) = layout::queue(h, b);
+    (first..first + n).any(|k| {
+        let v = layout::slot(t, k);
+        layout::is_good(h, b, v) && lead(h.profile, b, v[2], code).is_some()
+    })
+}
+
 /// What an accepted move does.
 pub struct Going {
     /// Out, or to a slot with so many hops more.
@@ -133,6 +146,7 @@ pub fn verdict(t: &[u8], h: &Head, slot: usize, code: u32) -> Result<Going, u32>
     }
     match lead(h.profile, p, v[2], code) {
         None => Err(5),
+        Some(_) if gives_way(t, h, p, code) => Err(12),
         Some(Lead::Out) => Ok(Going { to: None, queue: p }),
         Some(Lead::To(queue, more)) => match layout::room(t, h, queue) {
             None => Err(6),

@@ -11,7 +11,9 @@ mod forged;
 mod malformed;
 mod packed;
 mod prefix;
+mod queues;
 mod random_calls;
+mod right_of_way;
 mod sizes;
 mod spoiled_targets;
 mod taken_end;
@@ -34,6 +36,7 @@ const RECIPES: &[(&str, Recipe)] = &[
     ("following find", following::make),
     ("packed boards", packed::make),
     ("forged packets", forged::make),
+    ("right of way", right_of_way::make),
 ];
 
 /// Consecutive seeds go through the recipes in turn, the malformed scripts last.

@@ -70,7 +70,7 @@ fn pack(bench: &mut Bench, slots: u32, share: usize, stride: u32) -> Vec<u32> {
 }
 
 /// Taken above every serial and, most often, as far above delivered as packets are held.
-fn set_counts(bench: &mut Bench, serials: &[u32]) {
+pub fn set_counts(bench: &mut Bench, serials: &[u32]) {
     let Some(trailer) = bench.trailer() else {
         return;
     };

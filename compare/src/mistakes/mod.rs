@@ -3,6 +3,7 @@
 mod left;
 mod moving;
 mod profiles;
+mod right_of_way;
 mod slots;
 mod taking;
 mod whole_table;
@@ -40,6 +41,28 @@ pub const MISTAKES: &[(&str, &dyn Calls)] = &[
     ("profile-not-held", &profiles::ProfileNotHeld),
     ("take-forgets-profile", &profiles::TakeForgetsProfile),
     ("trailer-takes-profile-3", &profiles::TrailerTakesThree),
+    ("find-forgets-way", &right_of_way::FindForgetsWay),
+    ("no-right-of-way", &right_of_way::NoRightOfWay),
+    ("stopped-by-a", &right_of_way::StoppedByA),
+    (
+        "stopped-by-another-node",
+        &right_of_way::StoppedByAnotherNode,
+    ),
+    ("stopped-by-spoiled", &right_of_way::StoppedBySpoiled),
+    ("stopped-by-the-first", &right_of_way::StoppedByTheFirst),
+    (
+        "stopped-by-the-lowest-held",
+        &right_of_way::StoppedByTheLowestHeld,
+    ),
+    (
+        "stopped-by-the-other-code",
+        &right_of_way::StoppedByTheOtherCode,
+    ),
+    ("stopped-in-good-tables", &right_of_way::StoppedInGoodTables),
+    ("stopped-on-code-2", &right_of_way::StoppedOnCodeTwo),
+    ("stopped-only-with-room", &right_of_way::StoppedOnlyWithRoom),
+    ("twelve-after-six", &right_of_way::TwelveAfterSix),
+    ("twelve-before-five", &right_of_way::TwelveBeforeFive),
     ("clears-before-table", &taking::ClearsBeforeTable),
     ("depth-zero-refused", &taking::DepthZeroRefused),
     ("full-before-end", &taking::FullBeforeEnd),

@@ -11,6 +11,7 @@ mod packet;
 mod payload;
 mod profile;
 mod refusal;
+mod right_of_way;
 mod rule;
 mod slot;
 mod table;

@@ -3,6 +3,7 @@
 use super::grid::SLOT_BYTES;
 use super::packet::Packet;
 use super::refusal::Refusal;
+use super::right_of_way::gives_way;
 use super::rule::{offered, Step, CODES};
 use super::slot::Slot;
 use super::table::Table;
@@ -53,7 +54,7 @@ pub fn make_move(slice: &mut [u8], slot: u32, code: u32) -> Result<Moved, Refusa
     }
 }
 
-/// Refusals 2 to 6 in the paper's order.
+/// Refusals 2 to 5, 12 and 6, in the papers' order.
 pub fn weigh<Bytes: AsRef<[u8]>>(
     table: &Table<Bytes>,
     slot: usize,
@@ -71,6 +72,9 @@ pub fn weigh<Bytes: AsRef<[u8]>>(
     };
     let step = offered(table.trailer.profile, place, packet.destination, code);
     let step = step.ok_or(Refusal::NotOffered)?;
+    if gives_way(table, place, code) {
+        return Err(Refusal::GivesWay);
+    }
     let (target, hops) = match step {
         Step::Delivery => return Ok(Landing::Delivery(packet)),
         Step::Queue(target) => (target, packet.hops),

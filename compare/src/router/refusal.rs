@@ -13,6 +13,7 @@ pub enum Refusal {
     WrongLength,
     CheckFailed(CheckFault),
     NothingHeld,
+    GivesWay,
 }
 
 /// What the full check found first, with the place it names.
@@ -37,6 +38,7 @@ impl Refusal {
             Refusal::WrongLength => 9,
             Refusal::CheckFailed(_) => 10,
             Refusal::NothingHeld => 11,
+            Refusal::GivesWay => 12,
         }
     }
 

@@ -1,19 +1,22 @@
--- The laws of a good board: its network keeps the network's laws and its layout the layout's, and how many slots, which nodes and how many hops there
--- can be.
+-- The laws of a good board: its network keeps the network's laws and its layout the layout's, which links A and B share, and how many slots, which nodes
+-- and how many hops there can be.
 -- Assumes nothing.
 use Prim.Native.Nat.{ℕ, _+_, _-_, _*_, _≤_, _<_}
 use mathlib.Core.Path.{_≡_, refl}
 use mathlib.Core.Bool.{true}
+use mathlib.Core.Logic.{_⊎_, _≢_}
 use mathlib.Core.List.{List}
 use native.Mathlib.Omega.{arith}
 use lib.ListN.{length}
-use Rattle.network.specs.declared.Kind.the-variants.{Waiting}
+use Rattle.network.specs.declared.Kind.the-variants.{Waiting, B}
 use Rattle.network.specs.declared.Place.{Place}
-use Rattle.network.specs.Net.{NetLaws}
+use Rattle.network.specs.declared.Lead.the-variants.{Hop, NotOffered}
+use Rattle.network.specs.Net.{NetLaws, at}
 use Rattle.network.specs.View.{LayoutLaws}
 use Rattle.mesh.specs.Rule.{profileOf}
 use Rattle.mesh.proofs.Hops.{on-means}
 use Rattle.mesh.proofs.Instance.{mesh-laws}
+use Rattle.mesh.proofs.Links as links
 use Rattle.mesh.proofs.Metric.{distance-most}
 use Rattle.mesh.proofs.Source003.{published-is}
 use Rattle.board.specs.declared.Board.{Board}
@@ -30,6 +33,15 @@ published-on b = published-is (profileOf (b .profile))
 pub net-laws : (b : Board) → NetLaws (netOf b)
 unfolding netOf
 net-laws b = mesh-laws (b .width) (b .height) (profileOf (b .profile))
+
+-- in B the hops are codes 3 and 5, and where 3 or 5 is offered it is a hop
+pub B-hops-by : (b : Board) (h d c n : ℕ) → netOf b .rule (at h B) d c ≡ Hop n → (c ≡ 3) ⊎ (c ≡ 5)
+unfolding netOf
+B-hops-by b = links.B-hops-by (profileOf (b .profile))
+
+pub offered-hops : (b : Board) (p : Place) (d c : ℕ) → (c ≡ 3) ⊎ (c ≡ 5) → netOf b .rule p d c ≢ NotOffered → (n : ℕ) × (netOf b .rule p d c ≡ Hop n)
+unfolding netOf
+offered-hops b = links.offered-hops (profileOf (b .profile))
 
 pub last-byte : (b : Board) → netOf b .last < 256
 unfolding netOf

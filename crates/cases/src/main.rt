@@ -1,5 +1,5 @@
-// Document 01's cases that are run and not proved, one call of every refusal, a slot that the next packet takes at once, order 1's room left, and
-// order 2's profiles.
+// Document 01's cases that are run and not proved, one call of every refusal, a slot that the next packet takes at once, order 1's room left,
+// order 2's profiles, and order 3's right of way.
 
 use survey::checking;
 use survey::checking::PlacedAnswer;
@@ -225,6 +225,67 @@ fn one_hop() {
     show(&t[192..]);
 }
 
+// A 2 by 2 board: A at (1,0) to (0,1) and B at (1,0) to (0,0) both have code 3. The one in A gives way, and find names its code 4; once the one in B
+// has gone, it may go.
+fn right_of_way() {
+    say(b"right of way\n");
+    let mut t = [0u8; 208];
+    clear(&mut t, 2, 2, 1, 0);
+    take_in(&mut t, 1, 16);
+    make_move(&mut t, 3, 1);
+    find(&t);
+    take_in(&mut t, 1, 0);
+    make_move(&mut t, 3, 1);
+    make_move(&mut t, 4, 3);
+    find(&t);
+    make_move(&mut t, 5, 3);
+    make_move(&mut t, 4, 3);
+}
+
+// The same two with B at (0,0) held, so that the one in B has no room, then A at (0,0) too: 12 comes before 6. With the one in B spoiled the answer
+// is 6, and 0 once A at (0,0) is empty.
+fn way_without_room() {
+    say(b"right of way without room\n");
+    let mut t = [0u8; 208];
+    clear(&mut t, 2, 2, 1, 0);
+    take_in(&mut t, 1, 16);
+    make_move(&mut t, 3, 1);
+    take_in(&mut t, 1, 0);
+    make_move(&mut t, 3, 1);
+    take_in(&mut t, 0, 0);
+    make_move(&mut t, 0, 1);
+    make_move(&mut t, 5, 3);
+    make_move(&mut t, 4, 3);
+    take_in(&mut t, 0, 17);
+    make_move(&mut t, 0, 1);
+    make_move(&mut t, 4, 3);
+    t[80] = 2;
+    make_move(&mut t, 4, 3);
+    make_move(&mut t, 1, 4);
+    make_move(&mut t, 4, 3);
+}
+
+// A 3 by 3 board: B at (1,1) to (1,0) has code 5 alone. A at (1,1) to (0,2) has code 3 and doesn't give way; A at (1,1) to (2,0) has code 5 and does,
+// but in profile 1 it has no code 5.
+fn way_of_one_code() {
+    say(b"right of way by the same code\n");
+    let mut t = [0u8; 448];
+    clear(&mut t, 3, 3, 1, 0);
+    take_in(&mut t, 17, 1);
+    make_move(&mut t, 12, 1);
+    take_in(&mut t, 17, 32);
+    make_move(&mut t, 12, 1);
+    make_move(&mut t, 13, 3);
+    take_in(&mut t, 17, 2);
+    make_move(&mut t, 12, 1);
+    make_move(&mut t, 13, 5);
+    t[435] = 1;
+    make_move(&mut t, 13, 5);
+    t[435] = 0;
+    make_move(&mut t, 14, 5);
+    make_move(&mut t, 13, 5);
+}
+
 // A slice too short for a trailer, and a trailer whose profile is 3.
 fn bad_trailer() {
     say(b"refusal 1\n");
@@ -385,6 +446,9 @@ fn main() {
     room_left();
     no_dynamic_hops();
     one_hop();
+    right_of_way();
+    way_without_room();
+    way_of_one_code();
     bad_trailer();
     every_field();
     out_of_range();

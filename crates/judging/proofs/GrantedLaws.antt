@@ -11,7 +11,7 @@ use Rattle.network.specs.declared.Place.{Place}
 use Rattle.network.specs.declared.Lead.the-variants.{Hop, Turn}
 use Rattle.network.specs.Net.{at}
 use Rattle.network.specs.Search.{numberAt}
-use Rattle.network.proofs.Tests.{cond-false}
+use Rattle.network.proofs.Tests.{cond-true, cond-false}
 use Rattle.network.proofs.SearchLaws.{at-some}
 use Rattle.board.specs.declared.Board.{Board}
 use Rattle.board.specs.Board.{netOf}
@@ -20,6 +20,7 @@ use Rattle.trailer.specs.declared.Head.{Head}
 use Rattle.table.specs.Refusals.{Row, firstDue}
 use Rattle.table.specs.Queues.{roomAt}
 use Rattle.table.proofs.RefusalLaws.{passed}
+use Rattle.way.proofs.WayLaws.{stopped, stopped-hops}
 use Rattle.judging.specs.Moves.{leadOf, barred, blocked, leadRows, moveDue}
 use Rattle.judging.proofs.NamedLaws.{Named, none-named, named-none}
 
@@ -35,17 +36,22 @@ pub record Granted (h : Head) (t : List ℕ) (k code : ℕ) : Type 0 where
   pub known : netOf (h .board) .known code ≡ true
   pub named : Named h t k
   pub offered : barred (leadOf (h .board) t k code) ≡ false
+  pub right-of-way : stopped h t k code ≡ false
   pub free : blocked (h .board) t (layoutOf (h .board) .placeOf k) (leadOf (h .board) t k code) ≡ false
 
 module _ (h : Head) (t : List ℕ) (k code : ℕ) where
   -- the refusals that the rule's answer comes to
   abbrev pub onward : List Row
-  onward = leadRows (h .board) t (layoutOf (h .board) .placeOf k) (leadOf (h .board) t k code)
+  onward = leadRows h t (layoutOf (h .board) .placeOf k) code (leadOf (h .board) t k code)
 
   -- where the code is known and the slot holds a good packet, they decide
   pub past-slot : netOf (h .board) .known code ≡ true → Named h t k → moveDue h t k code ≡ firstDue onward
   unfolding moveDue
   past-slot c n = cond-false _ _ (ap not c) ∙ named-none h t k onward n
+
+  -- 12 comes before 6: where the packet gives way it is due, whatever room there is
+  pub way-due : netOf (h .board) .known code ≡ true → Named h t k → stopped h t k code ≡ true → moveDue h t k code ≡ 12
+  way-due c n w = past-slot c n ∙ cond-false _ _ (ap barred (stopped-hops h t k code w .1)) ∙ cond-true _ _ w
 
   pub due-granted : moveDue h t k code ≡ 0 → Granted h t k code
   unfolding moveDue
@@ -53,7 +59,8 @@ module _ (h : Head) (t : List ℕ) (k code : ℕ) where
       let a = passed 1 _ _ e in
       let b = none-named h t k onward (a .1) in
       let c = passed 4 _ _ (b .1) in
-      record { known = not-false _ (a .0); named = b .0; offered = c .0; free = passed 5 _ _ (c .1) .0 }
+      let d = passed 11 _ _ (c .1) in
+      record { known = not-false _ (a .0); named = b .0; offered = c .0; right-of-way = d .0; free = passed 5 _ _ (d .1) .0 }
 
   pub granted-due : Granted h t k code → moveDue h t k code ≡ 0
-  granted-due a = past-slot (a .known) (a .named) ∙ cond-false _ _ (a .offered) ∙ cond-false _ _ (a .free)
+  granted-due a = past-slot (a .known) (a .named) ∙ cond-false _ _ (a .offered) ∙ cond-false _ _ (a .right-of-way) ∙ cond-false _ _ (a .free)

@@ -3,8 +3,9 @@
 use Prim.Native.Nat.{ℕ}
 use mathlib.Core.Path.{_≡_, refl, sym, ap, _∙_}
 use mathlib.Core.Logic.{_≢_}
-use mathlib.Core.Bool.{true, cond, not}
+use mathlib.Core.Bool.{true, false, cond, not}
 use mathlib.Core.List.{List}
+use native.Mathlib.Omega.{arith}
 use native.Mathlib.Decide.{ℕ-discrete}
 use Rattle.network.specs.declared.Lowest.{Lowest}
 use Rattle.network.specs.declared.Lowest.the-variants.{At, Nowhere}
@@ -18,15 +19,17 @@ use Rattle.board.specs.declared.Board.{Board}
 use Rattle.board.specs.Board.{netOf}
 use Rattle.board.specs.Layout.{layoutOf}
 use Rattle.trailer.specs.declared.Head.{Head}
-use Rattle.table.specs.Refusals.{firstDue, no-room}
+use Rattle.table.specs.Refusals.{firstDue, no-room, gives-way}
 use Rattle.table.specs.Queues.{roomAt, emptiesAt}
 use Rattle.table.proofs.RefusalLaws.{due-first, accepted-by, refused-by}
+use Rattle.way.specs.Way.{givesWay}
+use Rattle.way.proofs.WayLaws.{stopped}
 use Rattle.judging.specs.declared.verdict.Verdict.{Verdict}
 use Rattle.judging.specs.Named.{slotRows, slotDue}
 use Rattle.judging.specs.Moves.{leadOf, leadRows, moveDue}
 use Rattle.judging.specs.Verdicts.{refusedBy, into, ahead, moveVerdict}
 use Rattle.judging.proofs.NamedLaws.{Named}
-use Rattle.judging.proofs.GrantedLaws.{Granted, onward, past-slot, due-granted}
+use Rattle.judging.proofs.GrantedLaws.{Granted, onward, past-slot, way-due, due-granted}
 
 module _ (empty hops : ℕ) where
   into-number : (r : Lowest) → into r empty hops .number ≡ cond (not (isAt r)) no-room 0
@@ -37,15 +40,16 @@ module _ (empty hops : ℕ) where
   into-refused (At k) u = absurd (u refl)
   into-refused Nowhere u = refl
 
--- what the rule's answer comes to
-module _ (b : Board) (t : List ℕ) (here : Place) where
-  ahead-number : (lead : Lead) → ahead b t here lead .number ≡ firstDue (leadRows b t here lead)
+-- what the rule's answer comes to, where the packet gives way to none
+module _ (h : Head) (t : List ℕ) (here : Place) (code : ℕ) where
+  ahead-number : (lead : Lead) → givesWay h t here code lead ≡ false → ahead (h .board) t here lead .number ≡ firstDue (leadRows h t here code lead)
   unfolding ahead
-  ahead-number (Hop n) = into-number (emptiesAt b t (at n (here .kind))) 1 (roomAt b t (at n (here .kind)))
-  ahead-number (Turn k) = into-number (emptiesAt b t (at (here .node) k)) 0 (roomAt b t (at (here .node) k))
-  ahead-number Out = refl
-  ahead-number NotOffered = refl
+  ahead-number (Hop n) f = into-number (emptiesAt _ t (at n (here .kind))) 1 (roomAt _ t (at n (here .kind))) ∙ sym (cond-false _ _ f)
+  ahead-number (Turn k) f = into-number (emptiesAt _ t (at (here .node) k)) 0 (roomAt _ t (at (here .node) k)) ∙ sym (cond-false _ _ f)
+  ahead-number Out f = sym (cond-false _ _ f)
+  ahead-number NotOffered f = refl
 
+module _ (b : Board) (t : List ℕ) (here : Place) where
   ahead-refused : (lead : Lead) → ahead b t here lead .number ≢ 0 → ahead b t here lead ≡ refusedBy (ahead b t here lead .number)
   unfolding ahead
   ahead-refused (Hop n) u = into-refused (emptiesAt b t (at n (here .kind))) 1 (roomAt b t (at n (here .kind))) u
@@ -68,16 +72,19 @@ module _ (h : Head) (t : List ℕ) (k code : ℕ) where
   unfolding moveVerdict moveDue
   granted-ahead z = accepted-by _ _ z
 
-  -- refused by the slot, or past it by what the rule's answer comes to
+  -- refused by the slot, past it by the right of way, and past that by what the rule's answer comes to
   module _ (c : netOf (h .board) .known code ≡ true) where
     pub slot-refuses : (n : ℕ) → n ≡ slotDue h t k → n ≢ 0 → moveVerdict h t k code ≡ refusedBy n
     unfolding slotDue moveDue
     slot-refuses n e u =
         due-refuses n (e ∙ sym (cond-false _ _ (ap not c) ∙ due-first (slotRows h t k) (onward h t k code) (λ q. u (e ∙ q)))) u
 
-    pub slot-passes : Named h t k → moveVerdict h t k code ≡ ahead (h .board) t here lead
-    slot-passes n =
-        let d : ahead (h .board) t here lead .number ≡ moveDue h t k code = ahead-number _ t here lead ∙ sym (past-slot h t k code c n) in
+    pub way-refuses : Named h t k → stopped h t k code ≡ true → moveVerdict h t k code ≡ refusedBy gives-way
+    way-refuses n w = due-refuses _ (sym (way-due h t k code c n w)) (λ e. omega arith)
+
+    pub way-passes : Named h t k → stopped h t k code ≡ false → moveVerdict h t k code ≡ ahead (h .board) t here lead
+    way-passes n f =
+        let d : ahead (h .board) t here lead .number ≡ moveDue h t k code = ahead-number h t here code lead f ∙ sym (past-slot h t k code c n) in
         elim (ℕ-discrete (moveDue h t k code) 0) [
           | yes z ↦ granted-ahead z
           | no z ↦ due-refuses _ d (λ q. z (sym d ∙ q)) ∙ sym (ahead-refused (h .board) t here lead (λ q. z (sym d ∙ q)))
@@ -87,7 +94,7 @@ module _ (h : Head) (t : List ℕ) (k code : ℕ) where
   verdict-number = elim (ℕ-discrete (moveDue h t k code) 0) [
     | yes z ↦
         let g = due-granted h t k code z in
-        ap (λ (v : Verdict). v .number) (granted-ahead z) ∙ ahead-number _ t here lead ∙ sym (past-slot h t k code (g .known) (g .named))
+        ap (λ (v : Verdict). v .number) (granted-ahead z) ∙ ahead-number h t here code lead (g .right-of-way) ∙ sym (past-slot h t k code (g .known) (g .named))
     | no z ↦ ap (λ (v : Verdict). v .number) (due-refuses _ refl z)
   ]
 

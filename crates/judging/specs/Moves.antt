@@ -1,4 +1,4 @@
--- When a move (slot, code) is refused, under a good trailer: 2, 3, 4, 5, 6. The code is the chooser's proposal and is trusted in nothing.
+-- When a move (slot, code) is refused, under a good trailer: 2, 3, 4, 5, 12, 6. The code is the chooser's proposal and is trusted in nothing.
 -- Assumes nothing.
 use Prim.Native.Nat.{ℕ}
 use mathlib.Core.Bool.{Bool, true, false, not}
@@ -13,9 +13,10 @@ use Rattle.board.specs.declared.Board.{Board}
 use Rattle.board.specs.Board.{netOf}
 use Rattle.board.specs.Layout.{layoutOf}
 use Rattle.trailer.specs.declared.Head.{Head}
-use Rattle.table.specs.Refusals.{Row, row, firstDue, out-of-range, not-offered, no-room}
+use Rattle.table.specs.Refusals.{Row, row, firstDue, out-of-range, not-offered, no-room, gives-way}
 use Rattle.table.specs.Packets.{itemIn}
 use Rattle.table.specs.Queues.{roomAt}
+use Rattle.way.specs.Way.{givesWay}
 use Rattle.judging.specs.Named.{slotRows}
 
 -- where the rule leads the packet of a slot
@@ -35,16 +36,17 @@ blocked b t here (Turn k) = not (isAt (roomAt b t (at (here .node) k)))
 blocked b t here Out = false
 blocked b t here NotOffered = false
 
-abbrev pub leadRows : Board → List ℕ → Place → Lead → List Row
-leadRows b t here lead =
+abbrev pub leadRows : Head → List ℕ → Place → ℕ → Lead → List Row
+leadRows h t here code lead =
     row not-offered (barred lead)
-    ∷ row no-room (blocked b t here lead)
+    ∷ row gives-way (givesWay h t here code lead)
+    ∷ row no-room (blocked (h .board) t here lead)
     ∷ []
 
 abbrev pub moveRows : Head → List ℕ → ℕ → ℕ → List Row
 moveRows h t k code =
     row out-of-range (not (netOf (h .board) .known code))
-    ∷ (slotRows h t k ++ leadRows (h .board) t (layoutOf (h .board) .placeOf k) (leadOf (h .board) t k code))
+    ∷ (slotRows h t k ++ leadRows h t (layoutOf (h .board) .placeOf k) code (leadOf (h .board) t k code))
 
 -- the first refusal that is due for a move; 0 where it would be accepted
 unfoldable pub moveDue : Head → List ℕ → ℕ → ℕ → ℕ

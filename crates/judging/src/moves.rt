@@ -54,5 +54,8 @@ pub fn judge_move(t: &[u8], h: Head, slot: u32, code: u32) -> Verdict
     let here = board::layout::place_of(b, k);
     let destination = slots::slot_byte(t, k, 2);
     let lead = board::rule(b, here, destination, code);
+    if way::gives_way(t, h, here, code, lead) {
+        return crate::verdict::refuse(table::refusals::GIVES_WAY);
+    }
     go_ahead(t, b, here, lead)
 }

@@ -4,6 +4,7 @@ pub mod Offers
 pub mod Metric
 pub mod Hops
 pub mod Codes
+pub mod Links
 pub mod Source003
 pub mod Profiles
 pub mod Onward

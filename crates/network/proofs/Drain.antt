@@ -92,7 +92,8 @@ module _ (N : Net) (L : NetLaws N) {S C : Type 0} (see : S → Contents) (Fit : 
       let r = law calls s f p in
       let end = trace answer s calls .last in
       let on : (x : Item) → List·Memᴰ x (see end .items) → (c : C) × Accepted (answer end c) =
-      λ x m. let w = progress N L (see end .taken) (see end .delivered) (see end .items) (r .passing .sound) x m in M .goes end (r .fit) (r .passing) (w .who) (w .code) (w .held) (w .way) in
+      λ x m. let w = progress N L (see end .taken) (see end .delivered) (see end .items) (r .passing .sound) x m in
+      M .goes end (r .fit) (r .passing) (w .who) (w .code) (w .held) (w .way) (w .right) in
       record {
         passing = r .passing;
         bounded = r .bounded;

@@ -1,4 +1,4 @@
--- Some packet can always go: in B one of least level; where B holds none, in A one of greatest level; else any.
+-- Some packet can always go, and gives way to none: in B one of least level; where B holds none, in A one of greatest level; else any.
 -- Assumes nothing.
 use mathlib.Core.Path.{_≡_, refl, ap, _∙_}
 use mathlib.Core.Logic.{_⊎_, inl, inr}
@@ -14,17 +14,18 @@ use Rattle.network.specs.declared.Lead.{Lead}
 use Rattle.network.specs.Lists.{All}
 use Rattle.network.specs.Net.{Net, NetLaws, RuleLaws, at}
 use Rattle.network.specs.Packet.{Item, GoodItem, offer}
-use Rattle.network.specs.Machine.{Vacant, Open, leaves, hops, turns}
-use Rattle.network.proofs.Lists.{all-mem, all-map, best}
+use Rattle.network.specs.Machine.{Vacant, GivesWayTo, RightOfWay, Open, leaves, hops, turns}
+use Rattle.network.proofs.Lists.{all-mem, all-map, mem-all, best}
 use Rattle.network.proofs.Tests.{clash}
 use Rattle.network.proofs.Course.{settled-in-B}
 
--- a packet and a code for which the way is open
+-- a packet and a code for which the way is open, and which gives way to none
 pub record Ready (N : Net) (l : List Item) : Type 0 where
   pub who : Item
   pub held : List·Memᴰ who l
   pub code : ℕ
   pub way : Open N (Vacant l) who code
+  pub right : RightOfWay N l who code
 
 is-B : (k : Kind) → Dec (k ≡ B)
 is-B Waiting = no (λ e. clash cc)
@@ -67,15 +68,23 @@ module _ (N : Net) (L : NetLaws N) (taken delivered : ℕ) (l : List Item) (good
     known-kind : (k : Kind) (c : ℕ) {t : Lead} → x .place .kind ≡ k → N .rule (at (x .place .node) k) (x .packet .destination) c ≡ t → offer N x c ≡ t
     known-kind k c e o = ap (λ (j : Kind). N .rule (at (x .place .node) j) (x .packet .destination) c) e ∙ o
 
-    ready : (c : ℕ) → Open N (Vacant l) x c → Ready N l
-    ready c w = record { who = x; held = m; code = c; way = w }
+    ready : ((c : ℕ) → RightOfWay N l x c) → (c : ℕ) → Open N (Vacant l) x c → Ready N l
+    ready r c w = record { who = x; held = m; code = c; way = w; right = r c }
+
+    -- a packet in B gives way to none
+    in-B-right : x .place .kind ≡ B → (c : ℕ) → RightOfWay N l x c
+    in-B-right e c = mem-all (λ y. GivesWayTo N x y c → ⊥) l (λ y i w. let a = w .in-A in clash cc)
+
+    -- and where B holds none, no packet does
+    empty-B-right : None B l → (c : ℕ) → RightOfWay N l x c
+    empty-B-right none c = all-map (λ y u w. u (ap (λ (p : Place). p .kind) (w .in-B))) l none
 
     B-ready : x .place .kind ≡ B → All (λ y. y .place .kind ≡ B → N .level (x .place .node) ≤ N .level (y .place .node)) l → Ready N l
     B-ready e least =
         let r = laws .B-goes (settled-in-B fine e) in
         elim (r .1) [
-          | inl o ↦ ready (r .0) (leaves (known-kind B (r .0) e o))
-          | inr h ↦ ready (r .0) (hops (h .0) (known-kind B (r .0) e (h .1))
+          | inl o ↦ ready (in-B-right e) (r .0) (leaves (known-kind B (r .0) e o))
+          | inr h ↦ ready (in-B-right e) (r .0) (hops (h .0) (known-kind B (r .0) e (h .1))
               (rw e (level-vacant B (h .0) (all-map (λ y u v w. let p = u v in omega (arith, h .2)) l least))))
         ]
 
@@ -83,9 +92,9 @@ module _ (N : Net) (L : NetLaws N) (taken delivered : ℕ) (l : List Item) (good
     A-ready e clear greatest =
         let r = laws .A-goes in
         elim (r .1) [
-          | inl o ↦ ready (r .0) (leaves (known-kind A (r .0) e o))
-          | inr (inl t) ↦ ready (r .0) (turns B (known-kind A (r .0) e t) (none-vacant l (x .place .node) B clear))
-          | inr (inr h) ↦ ready (r .0) (hops (h .0) (known-kind A (r .0) e (h .1))
+          | inl o ↦ ready (empty-B-right clear) (r .0) (leaves (known-kind A (r .0) e o))
+          | inr (inl t) ↦ ready (empty-B-right clear) (r .0) (turns B (known-kind A (r .0) e t) (none-vacant l (x .place .node) B clear))
+          | inr (inr h) ↦ ready (empty-B-right clear) (r .0) (hops (h .0) (known-kind A (r .0) e (h .1))
               (rw e (level-vacant A (h .0) (all-map (λ y u v w. let p = u v in omega (arith, h .2)) l greatest))))
         ]
 
@@ -93,8 +102,8 @@ module _ (N : Net) (L : NetLaws N) (taken delivered : ℕ) (l : List Item) (good
     waiting-ready e clear empty =
         let r = laws .waiting-goes in
         elim (r .1) [
-          | inl t ↦ ready (r .0) (turns A (known-kind Waiting (r .0) e t) (none-vacant l (x .place .node) A empty))
-          | inr t ↦ ready (r .0) (turns B (known-kind Waiting (r .0) e t) (none-vacant l (x .place .node) B clear))
+          | inl t ↦ ready (empty-B-right clear) (r .0) (turns A (known-kind Waiting (r .0) e t) (none-vacant l (x .place .node) A empty))
+          | inr t ↦ ready (empty-B-right clear) (r .0) (turns B (known-kind Waiting (r .0) e t) (none-vacant l (x .place .node) B clear))
         ]
 
   pub progress : (z : Item) → List·Memᴰ z l → Ready N l

@@ -13,7 +13,7 @@ use Rattle.network.specs.Packet.{Packet, Item, Delivery, GoodItem}
 use Rattle.network.specs.Contents.{Passing}
 use Rattle.network.specs.View.{Slot, empty, held, Layout, LayoutLaws, View, itemAt, seen, itemsOf, contents}
 use Rattle.network.specs.Run.{Answer, delivered, trace}
-use Rattle.network.specs.Machine.{Stepped, Left, Open, leaves, hops, turns, Vacant, Machine}
+use Rattle.network.specs.Machine.{Stepped, Left, Open, leaves, hops, turns, Vacant, RightOfWay, Machine}
 use Rattle.network.specs.Table.{Vacated, Entered, Carried, HandedOut, HasRoom, TableMachine}
 use Rattle.network.specs.Drain.{Drains}
 use Rattle.network.proofs.Lists.{take-out, close-up, collect-mem, mem-collect, all-mem}
@@ -126,9 +126,10 @@ module _ (N : Net) (L : NetLaws N) (Y : Layout) (K : LayoutLaws N Y) {S C : Type
   table-machine = record {
     steps = T .carries;
     gives = T .hands;
-    goes = λ s f P x code m o.
+    goes = λ s f P x code m o right.
         let r = slot-of Y (see s) x m in
-        T .accepts s f P (r .0) (r .1) code (r .2) (r .3) (subst (λ (z : Item). Open N (HasRoom Y (see s)) z code) (r .4) (open-room (see s) P x code m o));
+        T .accepts s f P (r .0) (r .1) code (r .2) (r .3) (subst (λ (z : Item). Open N (HasRoom Y (see s)) z code) (r .4) (open-room (see s) P x code m o))
+        (subst (λ (z : Item). RightOfWay N (itemsOf Y (see s)) z code) (r .4) right);
   }
 
   -- demand 3 for tables

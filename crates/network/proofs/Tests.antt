@@ -51,6 +51,10 @@ and-yes {b = b} e = ap (λ (a : Bool). a && b) e
 pub and-no : {a : Bool} (b : Bool) → a ≡ false → (a && b) ≡ false
 and-no b e = ap (λ (a : Bool). a && b) e
 
+pub never-true : (b : Bool) → (b ≡ true → ⊥) → b ≡ false
+never-true true u = absurd (u refl)
+never-true false u = refl
+
 pub neither : (a b : Bool) → (a || b) ≡ false → (a ≡ false) × (b ≡ false)
 neither true b e = clash cc
 neither false b e = (refl, e)

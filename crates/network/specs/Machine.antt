@@ -4,6 +4,7 @@ use mathlib.Core.Path.{_≡_}
 use mathlib.Core.List.{List, _∷_, List·Permᴰ, List·Memᴰ}
 use Prim.Native.Nat.{ℕ, suc}
 use Rattle.network.specs.declared.Kind.{Kind}
+use Rattle.network.specs.declared.Kind.the-variants.{A, B}
 use Rattle.network.specs.declared.Place.{Place}
 use Rattle.network.specs.declared.Lead.the-variants.{Hop, Turn, Out}
 use Rattle.network.specs.Lists.{All}
@@ -45,6 +46,18 @@ pub data Open (N : Net) (Free : Place → Type 0) (x : Item) (code : ℕ) : Type
   hops : (n : ℕ) → offer N x code ≡ Hop n → Free (at n (x .place .kind)) → Open N Free x code
   turns : (k : Kind) → offer N x code ≡ Turn k → Free (at (x .place .node) k) → Open N Free x code
 
+-- document 02, order 3, static traffic first on a link: in A, on a code by which the rule makes it hop, packet x gives way to packet y, which is in B at
+-- the same node and is offered a hop by that same code. Good is not asked: where a machine must accept, every packet is
+pub record GivesWayTo (N : Net) (x y : Item) (code : ℕ) : Type 0 where
+  pub in-A : x .place .kind ≡ A
+  pub in-B : y .place ≡ at (x .place .node) B
+  pub hop : (n : ℕ) × (offer N x code ≡ Hop n)
+  pub same-hop : (n : ℕ) × (offer N y code ≡ Hop n)
+
+-- it gives way to none of the list
+abbrev pub RightOfWay : Net → List Item → Item → ℕ → Type 0
+RightOfWay N l x code = All (λ y. GivesWayTo N x y code → ⊥) l
+
 -- no packet of the list stands in that queue
 abbrev pub Vacant : List Item → Place → Type 0
 Vacant l p = All (λ y. y .place ≡ p → ⊥) l
@@ -54,4 +67,4 @@ pub record Machine (N : Net) {S C : Type 0} (see : S → Contents) (Fit : S → 
   pub steps : (s t : S) (c : C) → Fit s → Passing N (see s) → answer s c ≡ moved t → Fit t × Stepped N (see s) (see t)
   pub gives : (s t : S) (c : C) (d : Delivery) → Fit s → Passing N (see s) → answer s c ≡ delivered t d → Fit t × Left N (see s) (see t) d
   pub goes : (s : S) → Fit s → Passing N (see s) → (x : Item) (code : ℕ) → List·Memᴰ x (see s .items) → Open N (Vacant (see s .items)) x code
-      → (c : C) × Accepted (answer s c)
+      → RightOfWay N (see s .items) x code → (c : C) × Accepted (answer s c)

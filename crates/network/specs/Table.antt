@@ -9,9 +9,9 @@ use Rattle.network.specs.declared.Lead.the-variants.{Out}
 use Rattle.network.specs.Net.{Net}
 use Rattle.network.specs.Packet.{Packet, Delivery, offer, handed}
 use Rattle.network.specs.Contents.{Passing}
-use Rattle.network.specs.View.{empty, held, Layout, View, itemAt, contents}
+use Rattle.network.specs.View.{empty, held, Layout, View, itemAt, itemsOf, contents}
 use Rattle.network.specs.Run.{Answer, moved, delivered, Accepted}
-use Rattle.network.specs.Machine.{Led, Stepped, Left, Open}
+use Rattle.network.specs.Machine.{Led, Stepped, Left, Open, RightOfWay}
 
 -- slot i has been left: the n slots behind it, of its queue, have moved down by one place each, the last of them is empty, and every other slot is
 -- as it was. With n = 0, slot i alone is empty now; with n = the slots behind it in its queue, the queue has closed up.
@@ -69,4 +69,4 @@ pub record TableMachine (N : Net) (Y : Layout) {S C : Type 0} (see : S → View)
   pub hands : (s t : S) (c : C) (d : Delivery) → Fit s → Passing N (contents Y (see s)) → answer s c ≡ delivered t d
       → Fit t × Left N (contents Y (see s)) (contents Y (see t)) d
   pub accepts : (s : S) → Fit s → Passing N (contents Y (see s)) → (i : ℕ) (p : Packet) (code : ℕ) → i < Y .size → see s .at i ≡ held p
-      → Open N (HasRoom Y (see s)) (itemAt Y i p) code → (c : C) × Accepted (answer s c)
+      → Open N (HasRoom Y (see s)) (itemAt Y i p) code → RightOfWay N (itemsOf Y (see s)) (itemAt Y i p) code → (c : C) × Accepted (answer s c)

@@ -99,8 +99,8 @@ pub extern "C" fn paneglove_take_in(
     }
 }
 
-// Refuses by 1 (trailer), 2 (no such slot, or no such code), 3 (the slot is empty), 4 (it is spoiled), 5 (the rule doesn't offer the move), then 6
-// (the target queue has no empty slot).
+// Refuses by 1 (trailer), 2 (no such slot, or no such code), 3 (the slot is empty), 4 (it is spoiled), 5 (the rule doesn't offer the move), 12
+// (a good packet in the node's B queue goes first on the link), then 6 (the target queue has no empty slot).
 #[no_mangle]
 pub extern "C" fn paneglove_make_move(s: &mut [u8], slot: u32, code: u32) -> Moved
     ensures { λ r. ⌜ outcome r (now (s .exit)) ≡ movedAcross (now (s .entry)) slot code ⌝ }

@@ -1,4 +1,4 @@
--- Document 01's cases marked P hold, and order 2's: one equation over their table, which antt computes.
+-- Document 01's cases marked P hold, and those of orders 2 and 3: one equation over their table, which antt computes.
 -- Assumes nothing.
 use mathlib.Core.Path.{_≡_, refl}
 use mathlib.Core.List.{map}

@@ -12,6 +12,7 @@ use Rattle.trailer.specs.Trailer.{headOk, trailerOf, withTaken, withDelivered, 
 use Rattle.table.specs.Packets.{goodAt}
 use Rattle.table.specs.Queues.{roomAt, emptiesAt}
 use Rattle.table.specs.Carriage.{vacated, carried}
+use Rattle.way.specs.Way.{firstHopInB, givesWay}
 use Rattle.judging.specs.Moves.{moveDue}
 use Rattle.router.specs.Clear.{clearedAs, clearedSlice}
 use Rattle.router.specs.TakeIn.{newRecord, tookIn, takenIn, takenSlice}
@@ -32,7 +33,7 @@ rules = tt
 
 -- the calls
 unfoldable pub calls : Unit {0}
-unfolding rules clearedAs clearedSlice newRecord tookIn takenIn takenSlice moveDue gone handedOut movedIn movedSlice readIn readSlice
+unfolding rules clearedAs clearedSlice newRecord tookIn takenIn takenSlice firstHopInB givesWay moveDue gone handedOut movedIn movedSlice readIn readSlice
 calls = tt
 
 unfoldable pub checks : Unit {0}

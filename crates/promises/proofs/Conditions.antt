@@ -1,7 +1,7 @@
 -- Document 01's conditions on a slice with a good trailer, and the tests that the router makes for them: each says the other.
 -- Assumes nothing.
 use Prim.Native.Nat.{ℕ, _+_, _<_, _≤_}
-use mathlib.Core.Path.{_≡_, refl, sym, ap, subst}
+use mathlib.Core.Path.{_≡_, refl, sym, ap, _∙_}
 use mathlib.Core.Logic.{_≢_}
 use mathlib.Core.Bool.{Bool, true, false, not}
 use mathlib.Core.List.{List}
@@ -14,22 +14,23 @@ use Rattle.network.specs.declared.Lead.the-variants.{Hop, Turn, Out, NotOffered
 use Rattle.network.specs.Net.{at}
 use Rattle.network.specs.declared.Lowest.the-variants.{At}
 use Rattle.network.specs.Search.{isAt, numberAt}
-use Rattle.network.proofs.Tests.{clash}
+use Rattle.network.proofs.Tests.{clash, never-true}
 use Rattle.network.proofs.SearchLaws.{at-some, some-at}
 use Rattle.network.proofs.Course.{means-good}
 use Rattle.slots.specs.Slots.{zeros}
 use Rattle.slots.proofs.SlotLaws.{length-slotAt}
 use Rattle.slots.proofs.ZeroLaws.{zeros-emptySlot}
 use Rattle.board.specs.Layout.{Sized}
-use Rattle.board.proofs.BoardLaws.{published-on, layout-laws, slot-fits}
+use Rattle.board.proofs.BoardLaws.{published-on, slot-fits}
 use Rattle.table.specs.Packets.{goodAt}
 use Rattle.table.specs.Queues.{emptyAt, roomAt}
-use Rattle.table.proofs.QueueLaws.{room-lowest, room-there, room-within}
-use Rattle.table.proofs.PacketLaws.{good-here}
+use Rattle.table.proofs.QueueLaws.{queue-at, room-lowest, room-there, room-within}
+use Rattle.table.proofs.PacketLaws.{mark-held, good-here}
 use Rattle.judging.specs.Moves.{leadOf, barred, blocked}
 use Rattle.judging.specs.Verdicts.{Targets}
+use Rattle.way.proofs.WayLaws.{stopped, stopped-by, by-stopped}
 use Rattle.calls.specs.Slices.{headIn, boardIn, tableIn, GoodIn, layoutIn, netIn, slotsIn, slotIn, placeIn}
-use Rattle.promises.specs.Conditions.{EmptyAt, HeldAt, GoodAt, leadIn, EmptyOf, HasEmpty, LowestOf, Room}
+use Rattle.promises.specs.Conditions.{EmptyAt, HeldAt, GoodAt, leadIn, EmptyOf, HasEmpty, LowestOf, Room, GivesWay}
 use Rattle.promises.proofs.Reading.{good-is, table-fits}
 
 -- the published function is the router's rule
@@ -66,11 +67,7 @@ module _ (s : List ℕ) (g : GoodIn s) where
       zeros-empty e = zeros-emptySlot (slotIn s k) (length-slotAt (tableIn s) k (slot-fits sized k l)) e
 
       pub held-zeros : HeldAt s k → zeros (slotIn s k) ≡ false
-      held-zeros h = go (zeros (slotIn s k)) refl
-        where
-          go : (b : Bool) → zeros (slotIn s k) ≡ b → b ≡ false
-          go true e = absurd (h (zeros-empty e))
-          go false e = refl
+      held-zeros h = never-true _ (λ e. h (zeros-empty e))
 
       pub test-good : goodAt (headIn s) (tableIn s) k ≡ true → GoodAt s k
       test-good e = good-here (headIn s) (tableIn s) k e (g .ranges) l
@@ -84,10 +81,7 @@ module _ (s : List ℕ) (g : GoodIn s) where
   module _ (p : Place) where
     -- an empty slot of the queue lies among the queue's slots
     in-queue : (j : ℕ) → EmptyOf s p j → (layoutIn s .first p ≤ j) × (j < layoutIn s .first p + layoutIn s .room (p .kind))
-    in-queue j e =
-        let q = subst (λ (x : Place). (i : ℕ) × (i < layoutIn s .room (x .kind)) × (j ≡ layoutIn s .first x + i)) (e .there)
-        (layout-laws (boardIn s) (g .ranges) .own j (e .inside)) in
-        (omega (arith, q .2), omega (arith, q .1, q .2))
+    in-queue j e = queue-at (boardIn s) (g .ranges) p j (e .inside) (e .there)
 
     pub empty-room : HasEmpty s p → isAt (roomAt (boardIn s) (tableIn s) p) ≡ true
     unfolding roomAt
@@ -130,3 +124,36 @@ module _ (s : List ℕ) (g : GoodIn s) where
   free-room here (Turn k) v e = room-has-empty (at (here .node) k) v (not-false _ e)
   free-room here Out v e = tt
   free-room here NotOffered v e = tt
+
+  -- ---- the right of way
+  module _ (k code : ℕ) (l : k < slotsIn s) where
+    pub way-given : stopped (headIn s) (tableIn s) k code ≡ true → GivesWay s k code
+    way-given e =
+        let by = stopped-by (headIn s) (tableIn s) k code (g .ranges) l e in
+        let j = by .0 in
+        let w = by .1 in
+        let way = w .yields in (
+          j,
+          record {
+            in-A = way .in-A;
+            hop = (way .hop .0, lead-is s k code ∙ way .hop .1);
+            inside = w .inside;
+            in-B = way .in-B;
+            held = zeros-held j (mark-held (headIn s) (tableIn s) j (w .good));
+            good = test-good j (w .inside) (w .good);
+            same-hop = (way .same-hop .0, lead-is s j code ∙ way .same-hop .1);
+          },
+        )
+
+    pub given-way : GivesWay s k code → stopped (headIn s) (tableIn s) k code ≡ true
+    given-way (j, w) =
+        by-stopped (headIn s) (tableIn s) k code (g .ranges) l j record {
+          inside = w .inside;
+          good = good-test j (w .good);
+          yields = record {
+            in-A = w .in-A;
+            in-B = w .in-B;
+            hop = (w .hop .0, sym (lead-is s k code) ∙ w .hop .1);
+            same-hop = (w .same-hop .0, sym (lead-is s j code) ∙ w .same-hop .1);
+          };
+        }

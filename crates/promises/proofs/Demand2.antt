@@ -1,4 +1,5 @@
--- Demand 2 holds of the router: exactly the offered moves with room are accepted, each does its one step, and a copy shows no payload.
+-- Demand 2 holds of the router: exactly the offered moves that give way to none and have room are accepted, each does its one step, and a copy shows no
+-- payload.
 -- Assumes nothing.
 use Prim.Native.Nat.{ℕ, _-_, _*_, _≤_}
 use mathlib.Core.Path.{_≡_, refl, sym, ap, subst, _∙_}
@@ -8,12 +9,13 @@ use mathlib.Core.List.{List}
 use native.Mathlib.Omega.{arith}
 use lib.ListN.{length, drop}
 use Rattle.network.specs.declared.Lead.the-variants.{NotOffered}
-use Rattle.network.proofs.Tests.{clash}
+use Rattle.network.proofs.Tests.{clash, never-true}
 use Rattle.board.specs.Layout.{layoutOf}
 use Rattle.trailer.specs.declared.Head.{Head}
 use Rattle.table.specs.Calls.{Outcome}
 use Rattle.judging.specs.Moves.{barred, leadOf}
 use Rattle.judging.proofs.NamedLaws.{targets}
+use Rattle.way.proofs.WayLaws.{stopped}
 use Rattle.judging.proofs.GrantedLaws.{Granted, due-granted, granted-due}
 use Rattle.router.specs.Move.{movedSlice}
 use Rattle.survey.specs.declared.copying.Copied.{Copied}
@@ -29,7 +31,7 @@ use Rattle.promises.specs.Demand2.{GoodPacket, Offered, OneStep, Shows, 
 use Rattle.promises.proofs.Reading.{head-is, table-is, good-in, good-is}
 use Rattle.promises.proofs.Steps.{offered-known}
 use Rattle.promises.proofs.Checked.{taken-small}
-use Rattle.promises.proofs.Conditions.{lead-is, held-zeros, zeros-held, good-test, test-good, not-barred, room-free, free-room}
+use Rattle.promises.proofs.Conditions.{lead-is, held-zeros, zeros-held, good-test, test-good, not-barred, room-free, free-room, way-given, given-way}
 use Rattle.promises.proofs.Tables.{slots-long, table-long, ends-alike}
 use Rattle.promises.proofs.OneStep.{accepted-trailer, number-is, it-steps}
 
@@ -51,10 +53,11 @@ module _ (s : List ℕ) (g : GoodIn s) where
     is-offered : Granted (headIn s) (tableIn s) k code → Offered s k code
     is-offered a = record {
       leads = λ n. let b : barred NotOffered ≡ false = rw (sym (lead-is s k code) ∙ n) at (a .offered) in clash cc;
+      right-of-way = λ w. let t = given-way s g k code (a .named .inside) w in let f = a .right-of-way in clash cc;
       room = rw (lead-is s k code) (free-room s g (placeIn s k) (leadOf (boardIn s) (tableIn s) k code) (targets (a .named) (g .ranges) code) (a .free));
     }
 
-    -- an offered move of a good packet, with room for it
+    -- a good packet's move that is offered, gives way to none and has room
     offered-accepted : GoodPacket s k → Offered s k code → Granted (headIn s) (tableIn s) k code
     offered-accepted p o =
         let leads : leadOf (boardIn s) (tableIn s) k code ≢ NotOffered = λ n. o .leads (lead-is s k code ∙ n) in
@@ -63,6 +66,7 @@ module _ (s : List ℕ) (g : GoodIn s) where
           known = offered-known (boardIn s) (placeIn s k) _ code refl offered;
           named = record { inside = p .inside; held = held-zeros s g k (p .inside) (p .held); good = good-test s g k (p .good) };
           offered = offered;
+          right-of-way = never-true (stopped (headIn s) (tableIn s) k code) (λ w. o .right-of-way (way-given s g k code (p .inside) w));
           free = room-free s g (placeIn s k) (leadOf (boardIn s) (tableIn s) k code) (rw (lead-is s k code) at (o .room));
         }
 

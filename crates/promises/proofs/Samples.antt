@@ -8,7 +8,7 @@ use lib.Dec.{ltb}
 use borrow.Author.Tests.{ltb-true}
 use Rattle.network.proofs.Tests.{and-l, and-r}
 use Rattle.calls.specs.Slices.{Bytes}
-use Rattle.promises.specs.Wrong.{waits, arrived, atHome, departs, vacant}
+use Rattle.promises.specs.Wrong.{waits, arrived, atHome, onOneLink, departs, vacant}
 use Rattle.promises.proofs.Computing.{bytes}
 
 abbrev small : List ℕ → Bool
@@ -30,6 +30,10 @@ arrived-bytes = bytes-by arrived refl
 pub atHome-bytes : Bytes atHome
 unfolding bytes
 atHome-bytes = bytes-by atHome refl
+
+pub onOneLink-bytes : Bytes onOneLink
+unfolding bytes
+onOneLink-bytes = bytes-by onOneLink refl
 
 pub departs-bytes : Bytes (departs 0)
 unfolding bytes

@@ -11,10 +11,10 @@ use Rattle.network.specs.declared.Lead.{Lead}
 use Rattle.network.specs.declared.Lead.the-variants.{Hop, Turn, Out, NotOffered}
 use Rattle.network.specs.Net.{delivery}
 use Rattle.network.specs.Packet.{Packet, Delivery, GoodItem, handed}
-use Rattle.network.specs.View.{held, View, itemAt, contents}
+use Rattle.network.specs.View.{held, View, itemAt, itemsOf, contents}
 use Rattle.network.specs.Contents.{Passing}
 use Rattle.network.specs.Run.{moved, delivered, Accepted, trace}
-use Rattle.network.specs.Machine.{Stepped, Left, Open}
+use Rattle.network.specs.Machine.{Stepped, Left, RightOfWay, Open}
 use Rattle.network.specs.Table.{Carried, HandedOut, HasRoom, TableMachine}
 use Rattle.network.specs.Drain.{Drains}
 use Rattle.network.proofs.Tests.{clash}
@@ -163,27 +163,29 @@ module _ (h₀ : Head) (small : h₀ .taken < 2 ^ 32) where
         (λ i. record { node = layoutOf (sym (head-is s (f .1)) i .board) .placeOf (c .slot) .node; packet = packetOf (sym (w .1) i) }) ∙ r .3 in
         ((h .delivered + 1, a .0), handed-left (netOf (h .board)) (layoutOf (h .board)) (see s) (see u) d (rw (see-good s h (f .1), ← same) (a .1)))
 
-  -- a good packet's move that the rule offers, to a queue with room or out, is accepted
+  -- a good packet's move that the rule offers, to a queue with room or out, is accepted where it gives way to none
   accepts : (s : List ℕ) (f : Fit h₀ s) → Passing (netOf (h₀ .board)) (contents (layoutOf (h₀ .board)) (see s)) → (i : ℕ) (p : Packet) (code : ℕ)
       → i < layoutOf (h₀ .board) .size → see s .at i ≡ held p
       → Open (netOf (h₀ .board)) (HasRoom (layoutOf (h₀ .board)) (see s)) (itemAt (layoutOf (h₀ .board)) i p) code
+      → RightOfWay (netOf (h₀ .board)) (itemsOf (layoutOf (h₀ .board)) (see s)) (itemAt (layoutOf (h₀ .board)) i p) code
       → Accepted (answering s record { slot = i; code = code })
   unfolding goodAt
-  accepts s f P i p code l e o =
+  accepts s f P i p code l e o right =
       let g = delivering h₀ (f .0) in
       let table = drop (length s - g .size) s in
       let there : viewOf g table .at i ≡ held p = rw (table-is s (f .1)) at e in
       let packet = slot-says (slotAt table i) p there .1 in
       let fine = all-mem (GoodItem (netOf (g .board)) (see s .taken) (see s .delivered)) (held-mem (layoutOf (g .board)) (see s) i p l e) (P .sound) in
       let good-there : goodAt g table i ≡ true = rw (packet) (means-good (netOf (g .board)) (g .taken) (g .delivered) (itemAt (layoutOf (g .board)) i p) (rw (head-is s (f .1)) at fine)) in
-      let z = open-accepted g table i p code l there good-there (rw (table-is s (f .1)) at o) in
+      let z = open-accepted g table i code (trailer-sized s (f .1) .board) l p there good-there
+      (rw (table-is s (f .1)) at o) (rw (table-is s (f .1)) at right) in
       accepted-by-number s record { slot = i; code = code } (movedSlice s i code) (number-is s g (f .1) i code ∙ z)
 
   machine : TableMachine (netOf (h₀ .board)) (layoutOf (h₀ .board)) see (Fit h₀) answering
   machine = record {
     carries = λ s u c f P. carries s u c f;
     hands = λ s u c d f P. hands s u c f d;
-    accepts = λ s f P i p code l e o. (record { slot = i; code = code }, accepts s f P i p code l e o);
+    accepts = λ s f P i p code l e o right. (record { slot = i; code = code }, accepts s f P i p code l e o right);
   }
 
 -- demand 3 of a slice under proposed moves: the table passes, and the count of packets taken in is one of four bytes

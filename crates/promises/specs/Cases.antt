@@ -21,6 +21,7 @@ use Rattle.table.specs.Calls.{Outcome}
 use Rattle.router.specs.Clear.{asked}
 use Rattle.calls.specs.Slices.{headIn, boardIn, slotsIn, placeIn}
 use Rattle.calls.specs.Router.{ours}
+use Rattle.calls.specs.Calls.{Call, clears as clearing, takes as taking, moves as moving, looks as looking, leftBy}
 use Rattle.promises.specs.Demand3.{sumIn}
 
 -- ---- the rule
@@ -110,6 +111,25 @@ deliveryOf (walking moves s slot) = []
 deliveryOf (arrived moves n packet) = moves ∷ n ∷ packet
 deliveryOf refused = []
 
+-- ---- several packets
+
+-- the number that a call answers; of those that only read none is asked here
+abbrev numberBy : List ℕ → Call → ℕ
+numberBy s (clearing b) = ours .clear s b .answer
+numberBy s (taking source destination bytes) = ours .take-in s source destination bytes .answer .number
+numberBy s (moving slot code) = ours .make-move s slot code .answer .number
+numberBy s (looking l) = 0
+
+-- of calls one after the other, each on what the one before left
+abbrev numbers : List ℕ → List Call → List ℕ
+numbers s [] = []
+numbers s (c ∷ l) = numberBy s c ∷ numbers (leftBy ours s c) l
+
+-- on a board of 2 by 2 and depth 1, from (1,0): a packet for (0,0), which enters slot 5, in B, then one for (0,1), which enters slot 4, in A
+abbrev bothLeft : List Call → List Call
+bothLeft l =
+    taking (node 1 0) (node 0 0) payload ∷ moving 3 1 ∷ taking (node 1 0) (node 0 1) payload ∷ moving 3 1 ∷ l
+
 -- ---- the questions
 
 pub data Question : Type 0 where
@@ -128,6 +148,8 @@ pub data Question : Type 0 where
   summed : ℕ → ℕ → Question
   -- the walk of such a packet by these codes: its moves, the node where it is delivered, and the packet's 16 bytes
   walked : ℕ → ℕ → List ℕ → Question
+  -- on a fresh 2 by 2 table of depth 1 and a profile, the numbers that these calls answer, one after the other
+  called : ℕ → List Call → Question
 
 abbrev pub answer : Question → List ℕ
 answer (codes profile x) = offered profile x (1 ∷ 2 ∷ 3 ∷ 4 ∷ 5 ∷ 6 ∷ 7 ∷ [])
@@ -137,6 +159,7 @@ answer (placed slot) = placeNumbers 3 (placeIn (made 3 3 1 0 448 .bytes) slot)
 answer (byteOf slot) = take 1 (slotAt (offsets 0 448) slot)
 answer (summed source destination) = sumOf (start source destination)
 answer (walked source destination l) = deliveryOf (walk (start source destination) l)
+answer (called profile l) = numbers (made 2 2 1 profile 208 .bytes) l
 
 pub record Case : Type 0 where
   pub asked : Question
@@ -184,4 +207,12 @@ table =
     ∷ case (codes 2 (packetAt A 1 1 1 1)) (7 ∷ [])
     ∷ case (codes 2 (packetAt B 2 2 0 0)) (3 ∷ [])
     ∷ case (codes 2 (packetAt B 0 2 0 0)) (5 ∷ [])
+    -- order 3: a packet for (0,0) enters slot 2, so that slot 5's has no room to the left, until it is delivered; slot 4's gives way until slot 5's
+    -- has gone
+    ∷ case
+    (called 0
+    (taking (node 0 0) (node 0 0) payload ∷ moving 0 1
+    ∷ bothLeft (moving 5 3 ∷ moving 4 3 ∷ moving 2 7 ∷ moving 4 3 ∷ moving 5 3 ∷ moving 4 3 ∷ [])))
+    (0 ∷ 0 ∷ 0 ∷ 0 ∷ 0 ∷ 0 ∷ 6 ∷ 12 ∷ 0 ∷ 12 ∷ 0 ∷ 0 ∷ [])
+    ∷ case (called 1 (bothLeft (moving 4 3 ∷ []))) (0 ∷ 0 ∷ 0 ∷ 0 ∷ 5 ∷ [])
     ∷ []

@@ -1,11 +1,12 @@
--- Document 01's words for the slots of a slice, as facts: empty, held, good, spoiled, an empty slot of a queue, the full check's first fault; and how
--- many slots of a queue are empty (document 02, order 1).
+-- Document 01's words for the slots of a slice, as facts: empty, held, good, spoiled, an empty slot of a queue, the full check's first fault; how
+-- many slots of a queue are empty (document 02, order 1), and to which packets one gives way (order 3).
 -- Assumes nothing.
 use Prim.Native.Nat.{ℕ, _-_, _<_, _≤_}
 use mathlib.Core.Path.{_≡_}
 use mathlib.Core.Logic.{_≢_}
 use mathlib.Core.Bool.{true, _&&_}
 use mathlib.Core.List.{List}
+use Rattle.network.specs.declared.Kind.the-variants.{A, B}
 use Rattle.network.specs.declared.Place.{Place}
 use Rattle.network.specs.declared.Lead.{Lead}
 use Rattle.network.specs.declared.Lead.the-variants.{Hop, Turn, Out, NotOffered}
@@ -62,6 +63,20 @@ Room s here (Hop n) = HasEmpty s (at n (here .kind))
 Room s here (Turn k) = HasEmpty s (at (here .node) k)
 Room s here Out = Unit {0}
 Room s here NotOffered = Unit {0}
+
+-- order 3, static traffic first on a link: in A, on a code by which the rule makes it hop, the packet of a slot gives way to that of slot j, which is
+-- in the B queue of the same node, held and good, and is offered a hop by that same code; room is not asked for
+pub record GivesWayTo (s : List ℕ) (slot code j : ℕ) : Type 0 where
+  pub in-A : placeIn s slot .kind ≡ A
+  pub hop : (n : ℕ) × (leadIn s slot code ≡ Hop n)
+  pub inside : j < slotsIn s
+  pub in-B : placeIn s j ≡ at (placeIn s slot .node) B
+  pub held : HeldAt s j
+  pub good : GoodAt s j
+  pub same-hop : (n : ℕ) × (leadIn s j code ≡ Hop n)
+
+abbrev pub GivesWay : List ℕ → ℕ → ℕ → Type 0
+GivesWay s slot code = (j : ℕ) × GivesWayTo s slot code j
 
 -- a held slot whose serial a lower held slot has
 abbrev pub RepeatsAt : List ℕ → ℕ → Type 0

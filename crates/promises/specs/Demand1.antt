@@ -22,9 +22,9 @@ use Rattle.survey.specs.Check.{PlacedAnswer}
 use Rattle.survey.specs.Find.{FindAnswer}
 use Rattle.calls.specs.Slices.{Bytes, headIn, GoodIn, netIn, slotsIn, placeIn}
 use Rattle.calls.specs.Router.{Router}
-use Rattle.promises.specs.Conditions.{EmptyAt, SpoiledAt, IsCode, leadIn, HasEmpty, Room, FaultAt, NothingHeld}
+use Rattle.promises.specs.Conditions.{EmptyAt, SpoiledAt, IsCode, leadIn, HasEmpty, Room, GivesWay, FaultAt, NothingHeld}
 
--- the refusals of a call in the paper's order, each with its number and the condition that it is given for
+-- the refusals of a call in the papers' order, each with its number and the condition that it is given for
 pub data Grounds : Type 1 where
   end : Grounds
   ground : ℕ → Type 0 → Grounds → Grounds
@@ -61,8 +61,9 @@ abbrev pub moveGrounds : List ℕ → ℕ → ℕ → Grounds
 moveGrounds s slot code =
     slotGrounds s slot (IsCode s code → ⊥)
     (ground 5 (leadIn s slot code ≡ NotOffered)
+    (ground 12 (GivesWay s slot code)
     (ground 6 (Room s (placeIn s slot) (leadIn s slot code) → ⊥)
-    end))
+    end)))
 
 abbrev pub readGrounds : List ℕ → ℕ → Grounds
 readGrounds s slot = slotGrounds s slot ⊥ end

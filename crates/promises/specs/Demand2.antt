@@ -1,5 +1,6 @@
--- Demand 2: a proposed move of a good packet is accepted exactly when the published rule offers it and its target queue has an empty slot; it
--- does that one step and no other. The copy for outsiders shows every field of every packet except its payload, which reads zero.
+-- Demand 2: a proposed move of a good packet is accepted exactly when the published rule offers it, it gives way to none (document 02, order 3) and its
+-- target queue has an empty slot; it does that one step and no other. The copy for outsiders shows every field of every packet except its
+-- payload, which reads zero.
 -- Assumes nothing.
 use Prim.Native.Nat.{ℕ, suc, _<_}
 use mathlib.Core.Path.{_≡_}
@@ -20,7 +21,7 @@ use Rattle.survey.specs.Copy.{withoutPayload}
 use Rattle.survey.specs.Secrecy.{Alike}
 use Rattle.calls.specs.Slices.{Bytes, headIn, GoodIn, beforeIn, slotsIn, slotIn, placeIn}
 use Rattle.calls.specs.Router.{Router}
-use Rattle.promises.specs.Conditions.{EmptyAt, HeldAt, GoodAt, IsCode, leadIn, LowestOf, roomLeft, Room}
+use Rattle.promises.specs.Conditions.{EmptyAt, HeldAt, GoodAt, IsCode, leadIn, LowestOf, roomLeft, Room, GivesWay}
 
 -- the slot holds a good packet, under a good trailer
 pub record GoodPacket (s : List ℕ) (slot : ℕ) : Type 0 where
@@ -29,9 +30,10 @@ pub record GoodPacket (s : List ℕ) (slot : ℕ) : Type 0 where
   pub held : HeldAt s slot
   pub good : GoodAt s slot
 
--- the published function offers the move, and there is room for it
+-- the published function offers the move, it gives way to none, and there is room for it
 pub record Offered (s : List ℕ) (slot code : ℕ) : Type 0 where
   pub leads : leadIn s slot code ≢ NotOffered
+  pub right-of-way : GivesWay s slot code → ⊥
   pub room : Room s (placeIn s slot) (leadIn s slot code)
 
 -- what no accepted move changes: the slice's length, the bytes before the table, and every slot but those named

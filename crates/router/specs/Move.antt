@@ -1,6 +1,6 @@
--- Move (slot, code): 1, 2, 3, 4, 5, 6. An accepted move puts the packet into the lowest empty slot of its target queue and leaves the old slot;
--- delivery hands out its 16 bytes and adds one to delivered. The answer tells how many slots are then empty in the queue that the packet went into or,
--- delivered, left (document 02, order 1).
+-- Move (slot, code): 1, 2, 3, 4, 5, 12 (document 02, order 3), 6. An accepted move puts the packet into the lowest empty slot of its target queue and
+-- leaves the old slot; delivery hands out its 16 bytes and adds one to delivered. The answer tells how many slots are then empty in the queue that the
+-- packet went into or, delivered, left (order 1).
 -- Assumes nothing.
 use Prim.Native.Nat.{ℕ, _+_, _-_}
 use mathlib.Core.List.{List}

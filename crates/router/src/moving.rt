@@ -74,8 +74,8 @@ fn move_in_table(t: &mut [u8], h: Head, slot: u32, code: u32) -> Moved
 
 // Makes the proposed move of the packet in a slot; a delivery hands out the packet's 16 bytes. `left` slots are then empty in the queue that the
 // packet went into, or, at a delivery, in the one that it left.
-// Refusals: 1 trailer not good; 2 no such slot or code; 3 the slot is empty; 4 it is spoiled; 5 the rule doesn't offer the move; 6 the target
-// queue has no empty slot.
+// Refusals: 1 trailer not good; 2 no such slot or code; 3 the slot is empty; 4 it is spoiled; 5 the rule doesn't offer the move; 12 a good
+// packet in the node's B queue goes first on the link; 6 the target queue has no empty slot.
 pub fn make_move(s: &mut [u8], slot: u32, code: u32) -> Moved
     ensures { λ r. ⌜ outcome r (now (s .exit)) ≡ movedSlice (now (s .entry)) slot code ⌝ }
 {

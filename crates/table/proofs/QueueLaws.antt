@@ -1,7 +1,7 @@
 -- A node's queue: its slots, the room found in it, and how many of its slots are empty.
 -- Assumes nothing.
 use Prim.Native.Nat.{ℕ, suc, _+_, _-_, _≤_, _<_}
-use mathlib.Core.Path.{_≡_, sym, ap, _∙_}
+use mathlib.Core.Path.{_≡_, sym, ap, subst, _∙_}
 use mathlib.Core.Logic.{_≢_}
 use mathlib.Core.Bool.{true, false}
 use mathlib.Core.List.{List}
@@ -24,12 +24,19 @@ pub room-counted : (b : Board) (t : List ℕ) (p : Place) → isAt (roomAt b t p
 unfolding roomAt emptiesAt
 room-counted b t p = count-search (emptyAt t) (layoutOf b .first p) (layoutOf b .room (p .kind))
 
+-- a slot at a queue's place is one of the queue's slots
+pub queue-at : (b : Board) (g : GoodBoard b) (p : Place) (i : ℕ) → i < layoutOf b .size → layoutOf b .placeOf i ≡ p
+    → (layoutOf b .first p ≤ i) × (i < layoutOf b .first p + layoutOf b .room (p .kind))
+queue-at b g p i l e =
+    let own = subst (λ (x : Place). (j : ℕ) × (j < layoutOf b .room (x .kind)) × (i ≡ layoutOf b .first x + j)) e (layout-laws b g .own i l) in
+    (omega (arith, own .2), omega (arith, own .1, own .2))
+
 module _ (b : Board) (g : GoodBoard b) (p : Place) (on : netOf b .valid (p .node) ≡ true) where
   -- the queue's slots lie in the table, and at its place
-  queue-inside : (i : ℕ) → i < layoutOf b .first p + layoutOf b .room (p .kind) → i < layoutOf b .size
+  pub queue-inside : (i : ℕ) → i < layoutOf b .first p + layoutOf b .room (p .kind) → i < layoutOf b .size
   queue-inside i m = omega (arith, queue-within b g p on)
 
-  queue-place : (i : ℕ) → layoutOf b .first p ≤ i → i < layoutOf b .first p + layoutOf b .room (p .kind) → layoutOf b .placeOf i ≡ p
+  pub queue-place : (i : ℕ) → layoutOf b .first p ≤ i → i < layoutOf b .first p + layoutOf b .room (p .kind) → layoutOf b .placeOf i ≡ p
   queue-place i l m =
       let first = layoutOf b .first p in
       let at : first + (i - first) ≡ i = omega arith in
@@ -67,10 +74,6 @@ module _ (b : Board) (g : GoodBoard b) (p : Place) (on : netOf b .valid (p .node
       → ((i : ℕ) → i < layoutOf b .size → layoutOf b .placeOf i ≡ p → i ≢ k → slotAt t i ≡ slotAt u i) → emptiesAt b u p ≡ suc (emptiesAt b t p)
   unfolding emptiesAt
   empties-more t u k l e was is f =
-      let own = layout-laws b g .own k l in
-      let at : k ≡ layoutOf b .first (layoutOf b .placeOf k) + own .0 = own .2 in
-      let within : own .0 < layoutOf b .room (layoutOf b .placeOf k .kind) = own .1 in
-      let first : layoutOf b .first (layoutOf b .placeOf k) ≡ layoutOf b .first p = ap (layoutOf b .first) e in
-      let room : layoutOf b .room (layoutOf b .placeOf k .kind) ≡ layoutOf b .room (p .kind) = ap (λ (x : Place). layoutOf b .room (x .kind)) e in
-      count-more (emptyAt t) (emptyAt u) _ _ k (omega arith) (omega arith) was is
+      let own = queue-at b g p k l e in
+      count-more (emptyAt t) (emptyAt u) _ _ k (own .0) (own .1) was is
       (λ i m n w. ap zeros (f i (queue-inside b g p on i n) (queue-place b g p on i m n) w))

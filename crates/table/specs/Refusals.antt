@@ -1,4 +1,4 @@
--- The refusals' numbers, and the first that is due (document 01, "What each call answers").
+-- The refusals' numbers, and the first that is due (document 01, "What each call answers"; document 02).
 -- Assumes nothing.
 use Prim.Native.Nat.{ℕ}
 use mathlib.Core.Bool.{Bool, cond}
@@ -36,6 +36,9 @@ check-failed = 10
 
 abbrev pub nothing-held : ℕ
 nothing-held = 11
+
+abbrev pub gives-way : ℕ
+gives-way = 12
 
 -- a refusal's number, and when it is due
 pub record Row : Type 0 where

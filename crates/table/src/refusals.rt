@@ -1,4 +1,4 @@
-// The refusals' numbers (document 01, "What each call answers").
+// The refusals' numbers (document 01, "What each call answers"; document 02).
 pub const TRAILER: u32 = 1;
 
 pub const OUT_OF_RANGE: u32 = 2;
@@ -20,3 +20,5 @@ pub const BUFFER: u32 = 9;
 pub const FAULT: u32 = 10;
 
 pub const NOTHING_HELD: u32 = 11;
+
+pub const GIVES_WAY: u32 = 12;

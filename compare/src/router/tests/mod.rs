@@ -9,4 +9,5 @@ mod goodness;
 mod left;
 mod profiles;
 mod refusals;
+mod right_of_way;
 mod rule_rows;

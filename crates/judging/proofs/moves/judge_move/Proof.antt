@@ -1,15 +1,19 @@
--- `judging::moves::judge_move` meets its contract: past the code and the slot, what the rule's answer comes to is the verdict.
+-- `judging::moves::judge_move` meets its contract: past the code, the slot and the right of way, what the rule's answer comes to is the
+-- verdict.
 -- Assumes nothing.
 use borrow.Author.Needs.{needs}
 use mathlib.Core.Path.{_≡_, sym, ap, _∙_}
 use mathlib.Core.Bool.{true, not}
 use native.Mathlib.Omega.{arith}
-use Rattle.network.proofs.Tests.{cond-true, held, not-failed}
+use Rattle.network.proofs.Tests.{cond-true, held, failed, not-failed}
 use Rattle.board.specs.Board.{netOf}
-use Rattle.board.proofs.BoardLaws.{slot-fits}
-use Rattle.judging.specs.Moves.{moveDue}
+use Rattle.board.proofs.BoardLaws.{layout-laws, slot-fits}
+use Rattle.way.specs.Way.{givesWay}
+use Rattle.way.proofs.WayLaws.{stopped}
+use Rattle.judging.specs.Moves.{leadOf, moveDue}
+use Rattle.judging.specs.Verdicts.{ahead}
 use Rattle.judging.proofs.NamedLaws.{Named, due-named, targets}
-use Rattle.judging.proofs.VerdictLaws.{due-refuses, slot-refuses, slot-passes}
+use Rattle.judging.proofs.VerdictLaws.{due-refuses, slot-refuses, way-refuses, way-passes}
 use Rattle.judging.proofs.moves.judge_move.Statement.{statement}
 use Rattle.judging.proofs.moves.judge_move.Tie as tie
 
@@ -21,6 +25,22 @@ named : (c : tie.Else2)
     → Named (c .before .before .before .before .before .before .args .h) (c .before .before .before .before .before .before .args .t .now)
     (c .before .before .before .before .before .before .args .slot)
 named c = due-named _ _ _ (sym (c .before .slot-due .ensures) ∙ c .if2 .left)
+
+-- the rule is asked of the packet's own place and destination
+lead-is : (r : tie.After-rule)
+    → let a = r .before .before .before .before .before .before .before .before .before .args in
+    r .rule .result ≡ leadOf (a .h .board) (a .t .now) (a .slot) (a .code)
+lead-is r =
+    let a = r .before .before .before .before .before .before .before .before .before .args in
+    r .rule .ensures ∙ (λ i. netOf (a .h .board) .rule (r .before .before .place-of .ensures i) (r .before .slot-byte .ensures i) (a .code))
+
+-- and so is the right of way
+way-is : (w : tie.After-gives-way)
+    → let a = w .before .before .before .before .before .before .before .before .before .before .args in
+    w .gives-way .result ≡ stopped (a .h) (a .t .now) (a .slot) (a .code)
+way-is w =
+    let a = w .before .before .before .before .before .before .before .before .before .before .args in
+    w .gives-way .ensures ∙ (λ i. givesWay (a .h) (a .t .now) (w .before .before .before .place-of .ensures i) (a .code) (lead-is (w .before) i))
 
 is-code-requires : tie.Need-is-code-requires
 is-code-requires c κs = search needs
@@ -57,17 +77,38 @@ slot-byte-requires c κs = (slot-fits (c .before .before .before .before .before
 rule-requires : tie.Need-rule-requires
 rule-requires c κs = search needs
 
-go-ahead-requires : tie.Need-go-ahead-requires
-go-ahead-requires c κs =
+gives-way-requires : tie.Need-gives-way-requires
+gives-way-requires c κs =
     let p = c .before .before in
     let s = p .before .before .before .before .before .before .before in
-    (s .pre, rw (c .rule .ensures, c .before .slot-byte .ensures, p .place-of .ensures) (targets (named (p .before)) (s .pre .board) (s .args .code)))
+    (s .pre, rw (p .place-of .ensures) (layout-laws _ (s .pre .board) .on-net _ (named (p .before) .inside)))
+
+refuse-requires-3 : tie.Need-refuse-requires-3
+refuse-requires-3 c κs = search needs
 
 returns-3 : tie.Need-returns-3
 returns-3 c =
-    let p = c .before .before .before in
+    let w = c .before .before in
+    let p = w .before .before .before in
     let a = p .before .before .before .before .before .before .before .args in
-    cc (slot-passes (a .h) (a .t .now) (a .slot) (a .code) (known (p .before .before .before)) (named (p .before)))
+    c .refuse3 .ensures
+    ∙ sym (way-refuses (a .h) (a .t .now) (a .slot) (a .code) (known (p .before .before .before)) (named (p .before)) (held (way-is w) (c .before .if3 .taken)))
+
+go-ahead-requires : tie.Need-go-ahead-requires
+go-ahead-requires c κs =
+    let r = c .before .before in
+    let p = r .before .before in
+    let s = p .before .before .before .before .before .before .before in
+    (s .pre, rw (lead-is r, p .place-of .ensures) (targets (named (p .before)) (s .pre .board) (s .args .code)))
+
+returns-4 : tie.Need-returns-4
+returns-4 c =
+    let w = c .before .before in
+    let p = w .before .before .before in
+    let a = p .before .before .before .before .before .before .before .args in
+    c .go-ahead .ensures
+    ∙ (λ i. ahead (a .h .board) (a .t .now) (p .place-of .ensures i) (lead-is (w .before) i))
+    ∙ sym (way-passes (a .h) (a .t .now) (a .slot) (a .code) (known (p .before .before .before)) (named (p .before)) (failed (way-is w) (c .before .if3 .left)))
 
 pub judge-move-spec : {M : Type 1} → statement M
 judge-move-spec =
@@ -82,5 +123,8 @@ judge-move-spec =
     place-of-requires
     slot-byte-requires
     rule-requires
+    gives-way-requires
+    refuse-requires-3
+    returns-3
     go-ahead-requires
-    returns-3)
+    returns-4)
