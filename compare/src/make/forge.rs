@@ -19,6 +19,17 @@ pub fn packet_as_in_a(bench: &mut Bench, slot: u32) -> Option<Packet> {
     packet_at(bench, Place { kind, ..place })
 }
 
+/// Into the slot, under a serial and with a payload of its own.
+pub fn put_under(bench: &mut Bench, slot: u32, packet: Packet, serial: u32) {
+    let payload = [bench.dice.byte(), 0, 0, 0, 0, 0, 0, 0];
+    let packet = Packet {
+        serial,
+        payload,
+        ..packet
+    };
+    bench.write_slot(slot, &packet.encode());
+}
+
 fn place_of(bench: &Bench, slot: u32) -> Option<Place> {
     bench.grid()?.place_of(usize::try_from(slot).ok()?)
 }

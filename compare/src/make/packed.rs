@@ -5,7 +5,7 @@ use super::acts::{self, Mood};
 use super::bench::Bench;
 use super::forge;
 use super::sizes::{lend_cleared, Sizes};
-use crate::router::{Packet, Trailer};
+use crate::router::Trailer;
 use crate::script::Command;
 
 pub fn make(bench: &mut Bench) {
@@ -56,13 +56,7 @@ fn pack(bench: &mut Bench, slots: u32, share: usize, stride: u32) -> Vec<u32> {
         };
         let again = twice && bench.dice.percent(5);
         let serial = if again { next / 2 } else { next };
-        let payload = [bench.dice.byte(), 0, 0, 0, 0, 0, 0, 0];
-        let packet = Packet {
-            serial,
-            payload,
-            ..packet
-        };
-        bench.write_slot(slot, &packet.encode());
+        forge::put_under(bench, slot, packet, serial);
         serials.push(serial);
         next = next.wrapping_add(stride);
     }

@@ -23,13 +23,7 @@ fn put(bench: &mut Bench, slot: u32, packet: Packet, serials: &mut Vec<u32>) {
     let next = u32::try_from(serials.len()).unwrap_or_default();
     let twice = bench.dice.percent(5);
     let serial = if twice { next / 2 } else { next };
-    let payload = [bench.dice.byte(), 0, 0, 0, 0, 0, 0, 0];
-    let packet = Packet {
-        serial,
-        payload,
-        ..packet
-    };
-    bench.write_slot(slot, &packet.encode());
+    forge::put_under(bench, slot, packet, serial);
     serials.push(serial);
 }
 

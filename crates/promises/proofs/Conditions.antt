@@ -1,4 +1,4 @@
--- Document 01's conditions on a slice with a good trailer, and the tests that the router makes for them: each says the other.
+-- The papers' conditions on a slice with a good trailer, and the tests that the router makes for them: each says the other.
 -- Assumes nothing.
 use Prim.Native.Nat.{ℕ, _+_, _<_, _≤_}
 use mathlib.Core.Path.{_≡_, refl, sym, ap, _∙_}
