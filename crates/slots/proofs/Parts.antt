@@ -4,8 +4,9 @@ use Prim.Native.Nat.{ℕ, zero, suc, _+_, _-_, _≤_, _<_}
 use mathlib.Core.Path.{_≡_, refl, sym, ap, _∙_}
 use mathlib.Core.List.{List, [], _∷_, _++_, append-assoc, append-nil}
 use native.Mathlib.Omega.{arith}
+use native.Mathlib.Nat.{zero-add, suc-add}
 use native.Mathlib.Numerals.{add-one}
-use lib.ListN.{length, getD, take, drop, set, length-append, length-take, length-drop, take-append-drop}
+use lib.ListN.{length, getD, take, drop, set, length-append, length-take, length-drop, length-set, take-append-drop}
 use lib.Seq.{
   append-snoc,
   drop-append-add,
@@ -14,6 +15,7 @@ use lib.Seq.{
   drop-drop,
   drop-length,
   length-take-le,
+  set-append-left,
   set-at,
   sets,
   sets-eq,
@@ -89,7 +91,6 @@ part-put-before s at v b n h k =
     ∙ ap (λ (l : List ℕ). part l b n) (take-put s at v at h (omega arith))
     ∙ part-take s at b n k
 
--- what lies there already changes nothing
 put-append : (p s : List ℕ) (b : ℕ) (w : List ℕ) → put (p ++ s) (length p + b) w ≡ p ++ put s b w
 put-append p s b w = rw (take-append-add, drop-append-add, append-assoc)
 
@@ -101,6 +102,40 @@ put-inside s a b w h =
 
 pub drop-put-inside : (s : List ℕ) (a b : ℕ) (w : List ℕ) → a ≤ length s → drop a (put s (a + b) w) ≡ put (drop a s) b w
 drop-put-inside s a b w h = ap (drop a) (put-inside s a b w h) ∙ drop-at (take a s) _ a (length-take-le a s h)
+
+-- ---- bytes put once more
+
+-- what lies there already changes nothing
+pub put-own : (s : List ℕ) (at n : ℕ) → at + n ≤ length s → put s at (part s at n) ≡ s
+put-own s at n h = rw (length-part s at n h, take-append-drop n (drop at s), take-append-drop at s)
+
+-- the bytes put last stand
+pub put-twice : (s : List ℕ) (at : ℕ) (v w : List ℕ) → at ≤ length s → length v ≡ length w → put (put s at v) at w ≡ put s at w
+put-twice s at v w h e = rw (take-put s at v at h (omega arith), drop-put-at s at v h, drop-at v (drop (length v) (drop at s)) (length w) e, e)
+
+-- bytes put apart from each other are put in either order
+pub put-apart : (s : List ℕ) (a : ℕ) (v : List ℕ) (b : ℕ) (w : List ℕ) → a + length v ≤ b → b ≤ length s
+    → put (put s a v) b w ≡ put (put s b w) a v
+put-apart s a v b w h k =
+    let m : ℕ = b - (a + length v) in
+    let e : a + (length v + m) ≡ b = omega arith in
+    let both : List ℕ = take a s ++ (v ++ put (drop (length v) (drop a s)) m w) in
+    let left : put (put s a v) (a + (length v + m)) w ≡ both =
+    put-inside (put s a v) a (length v + m) w (rw (length-put s a v (omega arith)) (omega arith))
+    ∙ rw (take-put s a v a (omega arith) (omega arith), drop-put-at s a v (omega arith), put-append) in
+    let right : put (put s (a + (length v + m)) w) a v ≡ both =
+    rw (
+      take-put s (a + (length v + m)) w a (omega arith) (omega arith),
+      drop-put-inside s a (length v + m) w (omega arith),
+      drop-put-inside (drop a s) (length v) m w (rw length-drop (omega arith)),
+    ) in
+    rw (← e) (left ∙ sym right)
+
+-- a byte of what was put
+pub set-put : (s : List ℕ) (at : ℕ) (v : List ℕ) (i x : ℕ) → at ≤ length s → i < length v → set (put s at v) (at + i) x ≡ put s at (set v i x)
+set-put s zero v i x h k = rw (zero-add, set-append-left v (drop (length v) s) i x k, length-set)
+set-put [] (suc at) v i x h k = absurd (omega arith)
+set-put (y ∷ s) (suc at) v i x h k = rw suc-add (ap (λ (l : List ℕ). y ∷ l) (set-put s at v i x (omega arith) k))
 
 -- ---- bytes stored one by one
 

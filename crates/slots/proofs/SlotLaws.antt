@@ -23,6 +23,10 @@ use Rattle.slots.proofs.Parts.{
   part-put-after,
   part-put-before,
   part-put-same,
+  put-apart,
+  put-own,
+  put-twice,
+  set-put,
   take-put,
 }
 
@@ -46,6 +50,33 @@ module _ (t : List ℕ) (k : ℕ) (h : 16 * k + 16 ≤ length t) where
       | yes l ↦ part-put-before t (16 * k) v (16 * j) 16 (omega arith) (omega arith)
       | no l ↦ part-put-after t (16 * k) v (16 * j) 16 (omega arith) (omega arith)
     ]
+
+    -- the slot as it was written last stands
+    pub withSlot-twice : (w : List ℕ) → length w ≡ 16 → withSlot (withSlot t k v) k w ≡ withSlot t k w
+    unfolding withSlot
+    withSlot-twice w f = put-twice t (16 * k) v w (omega arith) (e ∙ sym f)
+
+    -- a byte stored in it is stored in what was written
+    pub set-withSlot : (i x : ℕ) → i < 16 → set (withSlot t k v) (16 * k + i) x ≡ withSlot t k (set v i x)
+    unfolding withSlot
+    set-withSlot i x l = set-put t (16 * k) v i x (omega arith) (rw e l)
+
+  pub withSlot-own : withSlot t k (slotAt t k) ≡ t
+  unfolding slotAt withSlot
+  withSlot-own = put-own t (16 * k) 16 h
+
+  -- a byte stored in a slot is that slot written
+  pub set-slot : (i x : ℕ) → i < 16 → set t (16 * k + i) x ≡ withSlot t k (set (slotAt t k) i x)
+  set-slot i x l = ap (λ (s : List ℕ). set s (16 * k + i) x) (sym withSlot-own) ∙ set-withSlot (slotAt t k) length-slotAt i x l
+
+-- two slots are written in either order
+pub withSlot-apart : (t : List ℕ) (a c : ℕ) (v w : List ℕ) → 16 * a + 16 ≤ length t → 16 * c + 16 ≤ length t → length v ≡ 16 → length w ≡ 16 → a ≢ c
+    → withSlot (withSlot t c w) a v ≡ withSlot (withSlot t a v) c w
+unfolding withSlot
+withSlot-apart t a c v w ha hc ev ew n = elim (decLt a c) [
+  | yes l ↦ sym (put-apart t (16 * a) v (16 * c) w (omega arith) (omega arith))
+  | no l ↦ put-apart t (16 * c) w (16 * a) v (omega arith) (omega arith)
+]
 
 -- ---- what is read of a slot, where it lies in the table
 

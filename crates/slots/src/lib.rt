@@ -1,6 +1,7 @@
 // Leaves on bytes: one slot of 16 bytes in a table of slots, lent on as a part of the caller's slice.
 ghost use mathlib.Core.Bool.{_&&_};
 ghost use mathlib.Core.Path.{_≡_};
+ghost use mathlib.Core.Logic.{_≢_};
 ghost use Prim.Native.Nat.{_+_, _*_, _≤_, _<_};
 ghost use lib.ListN.{length, getD, replicate};
 ghost use Rattle.slots.specs.Bytes.{le32};
@@ -103,6 +104,22 @@ pub fn write_slot(t: &mut [u8], k: usize, v: [u8; 16])
 {
     let a = 16 * k;
     copy_bytes(&v, &mut t[a..a + 16]);
+}
+
+// Makes slot `to` the bytes of another slot, `from`.
+pub fn copy_slot(t: &mut [u8], from: usize, to: usize)
+    requires { ⌜ 16 * from + 16 ≤ length (now t) ⌝ }
+    requires { ⌜ 16 * to + 16 ≤ length (now t) ⌝ }
+    requires { ⌜ from ≢ to ⌝ }
+    ensures { λ _. ⌜ now (t .exit) ≡ withSlot (now (t .entry)) to (slotAt (now (t .entry)) from) ⌝ }
+{
+    let a = 16 * from;
+    let b = 16 * to;
+    let mut i = 0;
+    while i < 16 {
+        t[b + i] = t[a + i];
+        i += 1;
+    }
 }
 
 // Makes slot `k` 16 zeros.

@@ -1,4 +1,5 @@
--- A packet that leaves slot a, and one carried from there to slot c: the slots after it, the table's length, what follows the slots, and the trailer.
+-- A packet that leaves slot a, and one carried from there to slot c: the slots after it, the table's length, what follows the slots, and the trailer;
+-- and that a carried packet may be copied before it leaves.
 -- Assumes nothing.
 use Prim.Native.Nat.{ℕ, _+_, _*_, _≤_, _<_}
 use mathlib.Core.Path.{_≡_, refl, _∙_}
@@ -6,8 +7,8 @@ use mathlib.Core.Logic.{_≢_}
 use mathlib.Core.List.{List}
 use native.Mathlib.Omega.{arith}
 use lib.ListN.{length, getD, drop, length-set}
-use Rattle.slots.specs.Slots.{slotAt, emptySlot}
-use Rattle.slots.proofs.SlotLaws.{length-slotAt, length-withSlot, slotAt-same, slotAt-other, drop-withSlot}
+use Rattle.slots.specs.Slots.{slotAt, withSlot, emptySlot}
+use Rattle.slots.proofs.SlotLaws.{length-slotAt, length-withSlot, slotAt-same, slotAt-other, withSlot-twice, withSlot-apart, drop-withSlot}
 use Rattle.board.specs.declared.Board.{Board}
 use Rattle.board.specs.Layout.{layoutOf}
 use Rattle.board.proofs.BoardLaws.{slot-fits}
@@ -37,6 +38,11 @@ module _ (b : Board) (t : List ℕ) (k : ℕ) (h : 16 * k + 16 ≤ length t) whe
   unfolding vacated
   vacated-other j u = slotAt-other t k h emptySlot refl j u
 
+  -- another slot may be written before as well as after
+  vacated-apart : (c : ℕ) (v : List ℕ) → 16 * c + 16 ≤ length t → length v ≡ 16 → k ≢ c → vacated b (withSlot t c v) k ≡ withSlot (vacated b t k) c v
+  unfolding vacated
+  vacated-apart c v hc e n = withSlot-apart t k c emptySlot v h hc refl e n
+
 module _ (b : Board) (t : List ℕ) (a c more : ℕ) (ha : 16 * a + 16 ≤ length t) (hc : 16 * c + 16 ≤ length t) where
   long : length (hop (slotAt t a) more) ≡ 16
   long = length-hopped t a more ha
@@ -62,6 +68,14 @@ module _ (b : Board) (t : List ℕ) (a c more : ℕ) (ha : 16 * a + 16 ≤ lengt
 
   pub carried-other : (j : ℕ) → j ≢ a → j ≢ c → slotAt (carried b t a c more) j ≡ slotAt t j
   carried-other j u w = carried-else j w ∙ vacated-other b t a ha j u
+
+  -- it is copied straight from slot to slot, its hops are added there, and then it leaves
+  pub carried-straight : a ≢ c → (w : List ℕ) → w ≡ withSlot t c (slotAt t a) → vacated b (withSlot w c (hop (slotAt w c) more)) a ≡ carried b t a c more
+  unfolding carried
+  carried-straight n w e =
+      let v : List ℕ = slotAt t a in
+      let lv = length-slotAt t a ha in
+      rw (e, slotAt-same t c hc v lv, withSlot-twice t c hc v lv (hop v more) long) (vacated-apart b t a ha c (hop v more) hc long n)
 
 -- what follows the slots is not touched
 pub drop-vacated : (b : Board) (n : ℕ) (t : List ℕ) (k : ℕ) → k < n → 16 * n ≤ length t → drop (16 * n) (vacated b t k) ≡ drop (16 * n) t
