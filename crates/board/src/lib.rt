@@ -1,4 +1,6 @@
 // A board: its sizes and its profile, what its network answers, and where its slots are. Everything above asks here, and names no network.
+#![tactic(auto)]
+
 ghost use Rattle.std.specs.Prelude.{◌≡◌};
 ghost use Rattle.board.specs.Board.{in_range, board_ok, net_of, coordinates_of};
 

@@ -1,5 +1,6 @@
 // Document 01's cases that are run and not proved, one call of every refusal, a slot that the next packet takes at once, order 1's room left,
 // order 2's profiles, and order 3's right of way.
+#![tactic(auto)]
 
 use survey::checking::PlacedAnswer;
 use survey::{checking, copying, finding};

@@ -1,4 +1,6 @@
 // 4,096 flags as bits in 512 bytes: which serials, modulo 4,096, have been met.
+#![tactic(auto)]
+
 ghost use Rattle.std.specs.Prelude.{◌≡◌, false, ◌+◌, ◌<◌};
 ghost use Rattle.filter.specs.Flags.{weight_of, bit_of, flag_at, raised};
 

@@ -1,4 +1,6 @@
 // Whether a call is accepted, by which number it is refused, and where its packet goes: read off a table before anything is written.
+#![tactic(auto)]
+
 pub mod moves;
 pub mod named;
 pub mod takings;

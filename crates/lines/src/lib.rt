@@ -1,4 +1,6 @@
 // The lines that list a table. Each function puts a text at a place and answers the place past it.
+#![tactic(auto)]
+
 ghost use Rattle.std.specs.Prelude.{◌≡◌, ◌∷◌, [], ◌++◌, ◌-◌, ◌≤◌, ◌<◌};
 ghost use Rattle.board.specs.Board.{GoodBoard};
 ghost use Rattle.board.specs.Layout.{layout_of, Sized};

@@ -1,4 +1,6 @@
 // Reads a table from standard input, and writes its listing to standard output.
+#![tactic(auto)]
+
 fn main() {
     let mut input = listing::input_room();
     let n = io::read_full(libc::STDIN_FILENO, &mut input);

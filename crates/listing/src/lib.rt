@@ -1,4 +1,6 @@
 // What the listing program prints of a table, put into a lent buffer.
+#![tactic(auto)]
+
 ghost use Rattle.std.specs.Prelude.{◌≡◌, ◌+◌, length};
 ghost use Rattle.lines.specs.Lines.{room};
 ghost use Rattle.listing.specs.Output.{most};

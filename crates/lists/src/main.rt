@@ -1,4 +1,6 @@
 // For each file that the arguments name: its name with the line of the check, and its listing.
+#![tactic(auto)]
+
 fn say(text: &[u8]) {
     io::write_all(libc::STDOUT_FILENO, text);
 }

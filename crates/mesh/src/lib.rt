@@ -1,4 +1,6 @@
 // The published rule of moves on a grid, over places, and the distance that it shortens.
+#![tactic(auto)]
+
 ghost use Rattle.std.specs.Prelude.{◌≡◌};
 ghost use Rattle.mesh.specs.Grid.{on_grid, distance_of};
 ghost use Rattle.mesh.specs.Rule.{profile_of, step_of, signs_of, settled_by, arrived_by, in_each, offers, is_static, is_chosen, keeps, Addressable, leads, ruled};

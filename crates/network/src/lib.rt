@@ -1,4 +1,5 @@
 // What every board shares: the queue kinds, a packet's place, and what the rule of moves answers.
+#![tactic(auto)]
 
 // The three queues of a node.
 #[derive(Drop)]

@@ -1,4 +1,6 @@
 // Reads a slice from standard input, and writes its table's copy for outsiders; a refusal goes to standard error, in the listing's words.
+#![tactic(auto)]
+
 fn main() {
     let mut input = listing::input_room();
     let n = io::read_full(libc::STDIN_FILENO, &mut input);

@@ -1,6 +1,8 @@
 // The boundary for C and Rust: document 01's seven calls and the listing as exported functions, with structs that C can hold. None of them requires anything:
 // every slice and every number is answered. A refusal changes no byte of any lent slice, and beside its number answers zeros, but for the place that
 // 10 names. `include/paneglove.h` declares them.
+#![tactic(auto)]
+
 ghost use Rattle.std.specs.Prelude.{◌≡◌};
 ghost use Rattle.table.specs.Calls.{outcome};
 ghost use Rattle.router.specs.Clear.{asked, cleared_slice};

@@ -1,4 +1,6 @@
 // Carries out a script of calls from standard input, as docs/REPLAY.md says. The three buffers of 65,536 bytes are its bounds.
+#![tactic(auto)]
+
 mod buffers;
 mod calls;
 mod saying;

@@ -1,4 +1,6 @@
 // Document 01's calls that make, change and read a table.
+#![tactic(auto)]
+
 pub mod clearing;
 pub mod moving;
 pub mod reading;

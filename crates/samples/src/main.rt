@@ -1,5 +1,6 @@
 // The tables of samples/, made by the router's own calls, one after the other on standard output: a fresh 4 by 4 of depth 2, document 01's
 // example, a busy 4 by 4, a 4 by 4 of profile 2 with packets under way, and the example with one payload byte in an empty slot.
+#![tactic(auto)]
 
 use survey::finding::Found;
 

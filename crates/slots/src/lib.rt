@@ -1,4 +1,6 @@
 // Leaves on bytes: one slot of 16 bytes in a table of slots, lent on as a part of the caller's slice.
+#![tactic(auto)]
+
 ghost use Rattle.std.specs.Prelude.{◌&&◌, ◌≡◌, ◌≢◌, ◌+◌, ◌*◌, ◌≤◌, ◌<◌, length, get_or, replicate};
 ghost use Rattle.slots.specs.Bytes.{le32};
 ghost use Rattle.slots.specs.Slots.{slot_at, with_slot, empty_slot, zeros};

@@ -1,4 +1,6 @@
 // Document 01's calls that judge a whole table.
+#![tactic(auto)]
+
 pub mod checking;
 pub mod copying;
 pub mod finding;

@@ -1,4 +1,6 @@
 // Text put into a lent buffer. Each function puts a text at a place and answers the place past it.
+#![tactic(auto)]
+
 ghost use Rattle.std.specs.Prelude.{◌∷◌, [], ◌++◌};
 ghost use Rattle.text.specs.Dec.{dec};
 ghost use Rattle.text.specs.Put.{Fits, Wrote};

@@ -1,4 +1,6 @@
 // The trailer: the last 16 bytes of a lent slice, and the counts in it.
+#![tactic(auto)]
+
 ghost use Rattle.std.specs.Prelude.{◌≡◌, ◌≤◌, ◌<◌, length};
 ghost use Rattle.board.specs.Board.{GoodBoard};
 ghost use Rattle.board.specs.Layout.{table_size};

@@ -1,4 +1,6 @@
 // Reads a slice from standard input, and writes one line: `passes`, or why its table is refused.
+#![tactic(auto)]
+
 fn main() {
     let mut input = listing::input_room();
     let n = io::read_full(libc::STDIN_FILENO, &mut input);

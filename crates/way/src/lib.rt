@@ -1,4 +1,6 @@
 // The right of way on a link: static traffic first (document 02, order 3).
+#![tactic(auto)]
+
 ghost use Rattle.std.specs.Prelude.{◌≡◌, true, ◌<◌};
 ghost use Rattle.network.specs.Search.{is_at};
 ghost use Rattle.board.specs.Board.{net_of};
