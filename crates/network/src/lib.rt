@@ -2,7 +2,7 @@
 #![tactic(auto)]
 
 // The three queues of a node.
-#[derive(Drop)]
+#[derive(Clone, Copy)]
 pub enum Kind {
     Waiting,
     A,
