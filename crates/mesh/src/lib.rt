@@ -22,7 +22,7 @@ pub enum Profile {
 }
 
 // What a code names.
-#[derive(Drop)]
+#[derive(Clone, Copy)]
 pub enum Step {
     Enter,
     Right,
@@ -35,7 +35,7 @@ pub enum Step {
 }
 
 // The signs of the two differences, from here (x, y) to the destination (z, w).
-#[derive(Drop)]
+#[derive(Clone, Copy)]
 pub struct Signs {
     // z > x
     pub right: bool,
@@ -80,6 +80,7 @@ pub fn is_code(code: u32) -> bool
 }
 
 // The profile of a number; those above 2 are on no board that is accepted.
+#[tactic(auto, unfolding(crate::specs::Rule::profile_of))]
 pub fn profile_of(number: usize) -> Profile
     ensures { result ≡ profile_of number }
 {
@@ -90,6 +91,7 @@ pub fn profile_of(number: usize) -> Profile
     }
 }
 
+#[tactic(auto, unfolding(crate::specs::Rule::step_of))]
 fn step_of(code: u32) -> Step
     ensures { result ≡ step_of code }
 {
@@ -233,6 +235,7 @@ fn lead(step: Step, node: u8, s: Signs) -> Lead
 }
 
 // The rule of moves: where a code leads a packet from its place, for its destination, on a board of that profile. Any code is answered.
+#[tactic(auto, unfolding(crate::specs::Rule::ruled))]
 pub fn rule(profile: Profile, here: Place, destination: u8, code: u32) -> Lead
     ensures { result ≡ ruled profile here destination code }
 {
