@@ -7,6 +7,7 @@ use crate::Board;
 use network::{Kind, Place};
 
 // How many slots a table has.
+#[tactic(auto, unfolding(crate::specs::Layout::layout_of))]
 pub fn slots_of(b: Board) -> usize
     requires { GoodBoard b }
     ensures { result ≡ (layout_of b).size }
@@ -45,6 +46,7 @@ fn node_of(width: usize, m: usize) -> u8
     (m % width + 16 * (m / width)) as u8
 }
 
+#[tactic(auto, unfolding(crate::specs::Layout::layout_of))]
 pub fn place_of(b: Board, slot: usize) -> Place
     requires good_board { GoodBoard b }
     requires slot_bound { slot < (layout_of b).size }
@@ -70,6 +72,7 @@ fn offset_of(depth: usize, kind: Kind) -> usize
 }
 
 // A queue's first slot.
+#[tactic(auto, unfolding(crate::specs::Layout::layout_of))]
 pub fn first_slot(b: Board, p: Place) -> usize
     requires { GoodBoard b }
     ensures { result ≡ (layout_of b).first p }
@@ -81,6 +84,7 @@ pub fn first_slot(b: Board, p: Place) -> usize
 }
 
 // How many slots a queue has.
+#[tactic(auto, unfolding(crate::specs::Layout::layout_of))]
 pub fn room_of(b: Board, kind: Kind) -> usize
     ensures { result ≡ (layout_of b).room kind }
 {

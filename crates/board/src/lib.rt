@@ -34,6 +34,7 @@ fn within(x: usize, low: usize, high: usize) -> bool
 }
 
 // Are its sizes and its profile accepted?
+#[tactic(auto, unfolding(crate::specs::Board::board_ok))]
 pub fn board_ok(b: Board) -> bool
     ensures { result ≡ board_ok b }
 {
@@ -50,6 +51,7 @@ pub fn board_ok(b: Board) -> bool
 }
 
 // Is there such a node?
+#[tactic(auto, unfolding(crate::specs::Board::net_of))]
 pub fn is_node(b: Board, node: u8) -> bool
     ensures { result ≡ (net_of b).valid node }
 {
@@ -57,6 +59,7 @@ pub fn is_node(b: Board, node: u8) -> bool
 }
 
 // How far is it from one node to another?
+#[tactic(auto, unfolding(crate::specs::Board::net_of))]
 pub fn distance(b: Board, from: u8, to: u8) -> u32
     ensures { result ≡ (net_of b).distance from to }
 {
@@ -64,6 +67,7 @@ pub fn distance(b: Board, from: u8, to: u8) -> u32
 }
 
 // May B hold a packet here for that destination?
+#[tactic(auto, unfolding(crate::specs::Board::net_of))]
 pub fn settled(b: Board, here: u8, destination: u8) -> bool
     ensures { result ≡ (net_of b).settled here destination }
 {
@@ -71,6 +75,7 @@ pub fn settled(b: Board, here: u8, destination: u8) -> bool
 }
 
 // The rule of moves: where a code leads a packet from its place, for its destination.
+#[tactic(auto, unfolding(crate::specs::Board::net_of))]
 pub fn rule(b: Board, here: Place, destination: u8, code: u32) -> Lead
     ensures { result ≡ (net_of b).rule here destination code }
 {
@@ -78,6 +83,7 @@ pub fn rule(b: Board, here: Place, destination: u8, code: u32) -> Lead
 }
 
 // Is there such a code?
+#[tactic(auto, unfolding(crate::specs::Board::net_of))]
 pub fn is_code(b: Board, code: u32) -> bool
     ensures { result ≡ (net_of b).known code }
 {
@@ -85,12 +91,14 @@ pub fn is_code(b: Board, code: u32) -> bool
 }
 
 // The highest code.
+#[tactic(auto, unfolding(crate::specs::Board::net_of))]
 pub fn last_code(b: Board) -> u32
     ensures { result ≡ (net_of b).last }
 {
     mesh::LAST_CODE
 }
 
+#[tactic(auto, unfolding(crate::specs::Board::coordinates_of))]
 pub fn coordinates_of(b: Board, node: u8) -> Coordinates
     ensures { result ≡ coordinates_of b node }
 {
