@@ -8,7 +8,7 @@ use network::{Lead, Place};
 
 pub mod layout;
 
-#[derive(Drop)]
+#[derive(Clone, Copy)]
 pub struct Board {
     pub width: usize,
     pub height: usize,
@@ -18,7 +18,7 @@ pub struct Board {
 }
 
 // A node as it is written.
-#[derive(Drop)]
+#[derive(Clone, Copy)]
 pub struct Coordinates {
     pub x: u8,
     pub y: u8,

@@ -8,7 +8,7 @@ use table::queues::QueueRoom;
 
 // The number of the first refusal that is due, or 0 and what is done: the packet leaves, or goes to a slot with more hops, where so many slots of
 // the queue are left empty.
-#[derive(Drop)]
+#[derive(Clone, Copy)]
 pub struct Verdict {
     pub number: u32,
     pub leaves: bool,

@@ -19,7 +19,7 @@ pub const MOST: usize = 65536;
 pub const LINE_ROOM: usize = 59;
 
 // How much of the buffer is text, or a refusal's number.
-#[derive(Drop)]
+#[derive(Clone, Copy)]
 pub struct Listed {
     pub number: u32,
     pub length: usize,

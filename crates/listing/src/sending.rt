@@ -12,7 +12,7 @@ use trailer::Headed;
 pub const COPY_ROOM: usize = 61456;
 
 // How much of each buffer is to be sent, or a refusal's number.
-#[derive(Drop)]
+#[derive(Clone, Copy)]
 pub struct Sent {
     pub number: u32,
     pub copy: usize,

@@ -11,7 +11,7 @@ use network::{Kind, Lead, Place};
 mod axis;
 
 // Which of the rule's moves a board has (document 02, order 2), in the words of source 003, section VII.
-#[derive(Drop)]
+#[derive(Clone, Copy)]
 pub enum Profile {
     // all
     Full,

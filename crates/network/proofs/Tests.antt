@@ -4,7 +4,6 @@ use mathlib.Core.Path.{◌≡◌, refl, sym, ap, ◌∙◌}
 use mathlib.Core.Bool.{Bool, true, false, not, cond, ◌&&◌, ◌||◌, false≢true}
 use Prim.Native.Nat.{ℕ}
 use native.Mathlib.Omega.{arith}
-use borrow.Author.Tests.{not-true, not-false}
 
 pub and_l : (a b : Bool) → a && b ≡ true → a ≡ true
 and_l true b e = refl
@@ -24,19 +23,12 @@ clash z = absurd (omega arith)
 pub both_true : (a b : Bool) → (a && b) ≡ true → (a ≡ true) × (b ≡ true)
 both_true a b e = (and_l a b e, and_r a b e)
 
--- `if f(..) {`, in the arm and past it
+-- a call's `Bool` that a test found true, and one that it found false
 pub held : {r b : Bool} → r ≡ b → r ≡ true → b ≡ true
 held e t = sym e ∙ t
 
 pub failed : {r b : Bool} → r ≡ b → r ≡ false → b ≡ false
 failed e t = sym e ∙ t
-
--- `if !f(..) {`, in the arm and past it
-pub not_held : {r b : Bool} → r ≡ b → not r ≡ true → b ≡ false
-not_held e t = sym e ∙ not-true _ t
-
-pub not_failed : {r b : Bool} → r ≡ b → not r ≡ false → b ≡ true
-not_failed e t = sym e ∙ not-false _ t
 
 -- a chain of tests, one step for each: `cond_true _ _ e ∙ cond_false _ _ f`
 pub cond_true : {A : Type 0} {b : Bool} (x y : A) → b ≡ true → cond b x y ≡ x

@@ -10,14 +10,14 @@ pub enum Kind {
 }
 
 // A packet's place: its node, as the address byte that a slot holds, with a queue kind.
-#[derive(Drop)]
+#[derive(Clone, Copy)]
 pub struct Place {
     pub node: u8,
     pub kind: Kind,
 }
 
 // Where a move leads: a hop keeps the kind, a turn keeps the node, a delivered packet leaves the network.
-#[derive(Drop)]
+#[derive(Clone, Copy)]
 pub enum Lead {
     Hop(u8),
     Turn(Kind),
@@ -26,7 +26,7 @@ pub enum Lead {
 }
 
 // The lowest number with a property, if there is one.
-#[derive(Drop)]
+#[derive(Clone, Copy)]
 pub enum Lowest {
     At(usize),
     Nowhere,

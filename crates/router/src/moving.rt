@@ -6,7 +6,7 @@ ghost use Rattle.router.specs.Move.{refusal, handed_out, moved_in, moved_slice};
 
 use trailer::{Head, Headed};
 
-#[derive(Drop)]
+#[derive(Clone, Copy)]
 pub struct Moved {
     pub number: u32,
     pub slot: u32,

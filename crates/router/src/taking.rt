@@ -6,7 +6,7 @@ ghost use Rattle.router.specs.TakeIn.{refusal, new_record, taken_in, taken_slice
 
 use trailer::{Head, Headed};
 
-#[derive(Drop)]
+#[derive(Clone, Copy)]
 pub struct Taken {
     pub number: u32,
     pub slot: u32,

@@ -8,7 +8,7 @@ ghost use Rattle.survey.specs.Met.{Met};
 use network::Lowest;
 use trailer::{Head, Headed};
 
-#[derive(Drop)]
+#[derive(Clone, Copy)]
 pub enum Checked {
     Passes,
     BadTrailer,
@@ -16,7 +16,7 @@ pub enum Checked {
 }
 
 // The paper's number and place of an answer.
-#[derive(Drop)]
+#[derive(Clone, Copy)]
 pub struct PlacedAnswer {
     pub number: u32,
     pub place: u32,

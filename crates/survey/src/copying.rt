@@ -9,7 +9,7 @@ use crate::checking::PlacedAnswer;
 use network::Lowest;
 use trailer::{Head, Headed};
 
-#[derive(Drop)]
+#[derive(Clone, Copy)]
 pub enum Copied {
     Done,
     BadTrailer,

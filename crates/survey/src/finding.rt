@@ -6,7 +6,7 @@ ghost use Rattle.survey.specs.Find.{first_code, found_in, found_unless, found_sl
 use network::Lowest;
 use trailer::{Head, Headed};
 
-#[derive(Drop)]
+#[derive(Clone, Copy)]
 pub enum Found {
     Move(u32, u32),
     BadTrailer,
@@ -15,7 +15,7 @@ pub enum Found {
 }
 
 // The paper's number and values of an answer; where the check failed, its place is the slot.
-#[derive(Drop)]
+#[derive(Clone, Copy)]
 pub struct FindAnswer {
     pub number: u32,
     pub slot: u32,

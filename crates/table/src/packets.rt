@@ -11,7 +11,7 @@ use network::{Kind, Place};
 use trailer::Head;
 
 // A packet's record but its payload.
-#[derive(Drop)]
+#[derive(Clone, Copy)]
 pub struct Fields {
     pub mark: u8,
     pub source: u8,

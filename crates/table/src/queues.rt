@@ -9,7 +9,7 @@ ghost use Rattle.table.specs.Queues.{empty_at, room_at, empties_at};
 use board::Board;
 use network::{Lowest, Place};
 
-#[derive(Drop)]
+#[derive(Clone, Copy)]
 pub struct QueueRoom {
     pub lowest: Lowest,
     pub empty: u32,

@@ -9,7 +9,7 @@ ghost use Rattle.trailer.specs.Trailer.{board_of, head_of, head_ok, trailer_of, 
 use board::Board;
 
 // What a good trailer says. `size` is the table's length in bytes, the trailer's among them.
-#[derive(Drop)]
+#[derive(Clone, Copy)]
 pub struct Head {
     pub board: Board,
     pub taken: u32,
@@ -17,7 +17,7 @@ pub struct Head {
     pub size: usize,
 }
 
-#[derive(Drop)]
+#[derive(Clone, Copy)]
 pub enum Headed {
     Good(Head),
     Bad,
