@@ -108,7 +108,7 @@ pub fn write_slot(t: &mut [u8], k: usize, v: [u8; 16])
 pub fn copy_slot(t: &mut [u8], from: usize, to: usize)
     requires from_in_bounds { 16 * from + 16 ≤ length t.old }
     requires to_in_bounds { 16 * to + 16 ≤ length t.old }
-    requires from_nonzero { from ≢ to }
+    requires apart { from ≢ to }
     ensures { t.new ≡ with_slot t.old to (slot_at t.old from) }
 {
     let a = 16 * from;

@@ -28,7 +28,7 @@ pub fn leave(t: &mut [u8], b: Board, k: usize)
 pub fn carry(t: &mut [u8], b: Board, from: usize, to: usize, more: u8)
     requires from_in_bounds { 16 * from + 16 ≤ length t.old }
     requires to_in_bounds { 16 * to + 16 ≤ length t.old }
-    requires from_nonzero { from ≢ to }
+    requires apart { from ≢ to }
     requires more_bound { get_or (slot_at t.old from) 3 0 + more < 256 }
     ensures { t.new ≡ carried b t.old from to more }
 {

@@ -13,7 +13,7 @@ loop-i-preserved c =
     let r = c.requires in (
       omega arith,
       ap (λ (l : List ℕ). set l (16 * a.to + at.i) (get_or l (16 * a.from + at.i) 0)) at.invariant.1
-          ∙ one_copied a.t.now a.from a.to r.from_in_bounds r.to_in_bounds r.from_nonzero at.i (omega arith),
+          ∙ one_copied a.t.now a.from a.to r.from_in_bounds r.to_in_bounds r.apart at.i (omega arith),
     )
 
 pub returns : goal.returns
