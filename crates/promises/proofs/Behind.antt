@@ -20,13 +20,15 @@ use Rattle.trailer.proofs.TrailerLaws.{trailer-after}
 use Rattle.table.specs.Calls.{Outcome, outcome, after, on_table}
 use Rattle.table.proofs.CallLaws.{answered-done, answered_refused, on_table_good}
 use Rattle.router.specs.Clear.{used, clear_rows, cleared_as, cleared_slice}
-use Rattle.router.specs.TakeIn.{taken_in, taken_slice}
-use Rattle.router.specs.Move.{moved_in, moved_slice}
-use Rattle.router.specs.ReadPayload.{Reading, read_in, read_slice}
+use Rattle.router.specs.TakeIn.{refusal as take_refusal, taken_in, taken_slice}
+use Rattle.router.specs.Move.{refusal as move_refusal, moved_in, moved_slice}
+use Rattle.router.specs.ReadPayload.{Reading, refusal as read_refusal, read_in, read_slice}
+use Rattle.survey.specs.declared.checking.Checked.{Checked}
+use Rattle.survey.specs.declared.finding.Found.{Found}
 use Rattle.survey.specs.declared.copying.Copied.{Copied}
 use Rattle.survey.specs.Check.{unless_fault, read_by, on_passing, checked_slice, check_answer}
-use Rattle.survey.specs.Find.{found_slice, find_answer}
-use Rattle.survey.specs.Copy.{copied_slice, copy_answer}
+use Rattle.survey.specs.Find.{found_in, found_slice, find_answer}
+use Rattle.survey.specs.Copy.{copied_in, copied_slice, copy_answer}
 use Rattle.calls.specs.Slices.{head_in, GoodIn}
 use Rattle.calls.specs.Router.{ours}
 use Rattle.promises.specs.Demand1.{Behind}
@@ -74,14 +76,15 @@ module _ (p t : List ℕ) (g : GoodIn t) where
   pub all_behind : Behind ours p t
   unfolding taken_slice moved_slice read_slice checked_slice found_slice copied_slice
   all_behind = record {
-    take_in = λ source destination payload. on_table_behind _ (λ h u. taken_in h u source destination payload);
-    make_move = λ slot code. on_table_behind _ (λ h u. moved_in h u slot code);
+    take_in = λ source destination payload. on_table_behind take_refusal (λ h u. taken_in h u source destination payload);
+    make_move = λ slot code. on_table_behind move_refusal (λ h u. moved_in h u slot code);
     read_payload = λ slot.
-        ap (λ (o : Outcome Reading (List ℕ)). outcome o.answer (p ++ t)) (on_table_behind _ (λ h u. read_in h u slot));
-    full_check = ap (λ c. outcome (check_answer c) (p ++ t)) (passing_behind _ _ _);
-    find = ap (λ f. outcome (find_answer f) (p ++ t)) (passing_behind _ _ _);
+        ap (λ (o : Outcome Reading (List ℕ)). outcome o.answer (p ++ t)) (on_table_behind read_refusal (λ h u. read_in h u slot));
+    full_check = ap (λ c. outcome (check_answer c) (p ++ t)) (passing_behind Checked.BadTrailer Checked.FaultAt (λ h u. Checked.Passes));
+    find = ap (λ f. outcome (find_answer f) (p ++ t)) (passing_behind Found.BadTrailer Found.FaultAt found_in);
     copy_outward = λ out.
-        ap (λ (o : Outcome Copied (List ℕ)). outcome (copy_answer o.answer) record { slice = p ++ t; second = o.bytes }) (passing_behind _ _ _);
+        ap (λ (o : Outcome Copied (List ℕ)). outcome (copy_answer o.answer) record { slice = p ++ t; second = o.bytes })
+        (passing_behind (outcome Copied.BadTrailer out) (λ place. outcome (Copied.FaultAt place) out) (copied_in out));
   }
 
 -- ---- clear

@@ -2,7 +2,7 @@
 -- and is recorded, and when one comes in with the next serial.
 -- Assumes nothing.
 use Prim.Native.Nat.{ℕ, suc, ◌+◌, ◌<◌}
-use mathlib.Core.Path.{◌≡◌, refl, sym, ap, ◌∙◌}
+use mathlib.Core.Path.{◌≡◌, refl, sym, ap, subst, ◌∙◌}
 use mathlib.Core.Logic.{◌≢◌}
 use mathlib.Core.List.{List, [], ◌∷◌, ◌++◌, map, Permᴰ}
 use native.Mathlib.Omega.{arith}
@@ -64,7 +64,8 @@ module _ (taken : ℕ) (hopped : List ℕ) where
       record {
         distinct = rw e h.distinct;
         hops = (
-          rw e (hops_own (serial_of v) hopped ∙ ap (λ (n : ℕ). n + 1) h.hops.0 ∙ sym f),
+          subst (λ (n : ℕ). hops_of n (serial_of v ∷ hopped) ≡ (packet_of w).hops) (sym e)
+              (hops_own (serial_of v) hopped ∙ ap (λ (n : ℕ). n + 1) h.hops.0 ∙ sym f),
           all_with (λ x p q. hops_other (serial_of x) (serial_of v) hopped p ∙ q) l apart h.hops.1,
         );
         below = (rw e h.below.0, h.below.1);

@@ -16,7 +16,7 @@ use Rattle.board.proofs.Sizes.{board_good, good_board}
 use Rattle.judging.specs.Takings.{take_rows}
 use Rattle.router.specs.declared.taking.Taken.{Taken}
 use Rattle.router.specs.Clear.{used, clear_rows, cleared_as, cleared_slice}
-use Rattle.router.specs.TakeIn.{refusal as takeRefusal, took_in, taken_in, taken_slice}
+use Rattle.router.specs.TakeIn.{refusal as take_refusal, took_in, taken_in, taken_slice}
 use Rattle.calls.specs.Slices.{head_in, table_in, GoodIn, net_in}
 use Rattle.promises.specs.Conditions.{HasEmpty}
 use Rattle.promises.specs.Demand1.{Grounds, end, ground, First, clear_grounds, take_grounds, Refuses, NothingTaken}
@@ -84,18 +84,18 @@ module _ (s : List ℕ) (source destination : ℕ) where
     take_each : GoodIn s → First each (taken_in (head_in s) (table_in s) source destination payload).answer.number
     unfolding taken_in took_in
     take_each g =
-        first-answered (λ a. a.number) takeRefusal (λ n. refl) (take_rows (head_in s) (table_in s) source destination) (table_in s)
+        first-answered (λ a. a.number) take_refusal (λ n. refl) (take_rows (head_in s) (table_in s) source destination) (table_in s)
         (took_in (head_in s) (table_in s) source destination payload _) refl each (take_tells g)
 
     take-first : First (take_grounds s source destination) (taken_slice s source destination payload).answer.number
     unfolding taken_slice
     take-first =
-        first_on_table (λ a. a.number) takeRefusal (λ n. refl) s (λ h t. taken_in h t source destination payload) (later (take_grounds s source destination))
+        first_on_table (λ a. a.number) take_refusal (λ n. refl) s (λ h t. taken_in h t source destination payload) (later (take_grounds s source destination))
         (λ g. first-joined 2 _ counted inl inr on_both (take_each g))
 
     pub take_refuses :
         Refuses (λ (a : Taken). a.number) NothingTaken (take_grounds s source destination) s
         (taken_slice s source destination payload)
     take_refuses =
-        refuses (λ a. a.number) takeRefusal (λ n. refl) NothingTaken (λ n. (refl, refl, refl)) _ s _
+        refuses (λ a. a.number) take_refusal (λ n. refl) NothingTaken (λ n. (refl, refl, refl)) _ s _
         (take_refused s source destination payload) take-first

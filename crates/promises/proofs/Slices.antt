@@ -39,7 +39,7 @@ use Rattle.table.proofs.CallLaws.{on_table_good}
 use Rattle.judging.specs.Moves.{barred, lead_of, move_due}
 use Rattle.judging.proofs.GrantedLaws.{due_granted}
 use Rattle.router.specs.declared.moving.Moved.{Moved}
-use Rattle.router.specs.Move.{moved_in, moved_slice}
+use Rattle.router.specs.Move.{refusal, moved_in, moved_slice}
 use Rattle.router.proofs.MoveLaws.{moved_number}
 use Rattle.router.proofs.Carrying.{Carries, hop_carries, turn_carries}
 use Rattle.router.proofs.Handing.{Hands, out_hands}
@@ -66,7 +66,7 @@ module _ (s : List ℕ) (h : Head) (e : trailer_of s ≡ Good h) (k code : ℕ) 
 
   pub slice_is : moved_slice s k code ≡ after before (moved_in h t k code)
   unfolding moved_slice
-  slice_is = on_table_good s _ _ h e
+  slice_is = on_table_good s refusal (λ h t. moved_in h t k code) h e
 
   pub number_is : (moved_slice s k code).answer.number ≡ move_due h t k code
   number_is = ap (λ (o : Outcome Moved (List ℕ)). o.answer.number) slice_is ∙ moved_number h t k code

@@ -19,9 +19,9 @@ use Rattle.judging.specs.Takings.{take_rows}
 use Rattle.router.specs.declared.moving.Moved.{Moved}
 use Rattle.router.specs.declared.taking.Taken.{Taken}
 use Rattle.router.specs.Clear.{used, clear_rows, cleared_as, cleared_slice}
-use Rattle.router.specs.TakeIn.{refusal as takeRefusal, took_in, taken_in, taken_slice}
-use Rattle.router.specs.Move.{refusal as moveRefusal, moved_in, moved_slice}
-use Rattle.router.specs.ReadPayload.{Reading, refusal as readRefusal, read_in, read_slice}
+use Rattle.router.specs.TakeIn.{refusal as take_refusal, took_in, taken_in, taken_slice}
+use Rattle.router.specs.Move.{refusal as move_refusal, moved_in, moved_slice}
+use Rattle.router.specs.ReadPayload.{Reading, refusal as read_refusal, read_in, read_slice}
 use Rattle.router.proofs.MoveLaws.{moved_refused, moved_number}
 
 -- a refusal: its number, the rest of its answer, and the bytes as they were
@@ -56,23 +56,23 @@ unfolding cleared_slice cleared_as
 clear_refused s b = by_rows (λ n. n) (λ n. n) (λ n. refl) (clear_rows s (used b)) _ s refl
 
 pub take_refused : (s : List ℕ) (source destination : ℕ) (payload : List ℕ)
-    → Refused (λ (a : Taken). a.number) takeRefusal s (taken_slice s source destination payload)
+    → Refused (λ (a : Taken). a.number) take_refusal s (taken_slice s source destination payload)
 unfolding taken_slice taken_in took_in
 take_refused s source destination payload =
-    sliced (λ a. a.number) takeRefusal (λ n. refl) s (λ h t. taken_in h t source destination payload)
-    (λ h t. by_rows (λ a. a.number) takeRefusal (λ n. refl) (take_rows h t source destination) _ t refl)
+    sliced (λ a. a.number) take_refusal (λ n. refl) s (λ h t. taken_in h t source destination payload)
+    (λ h t. by_rows (λ a. a.number) take_refusal (λ n. refl) (take_rows h t source destination) _ t refl)
 
-moved_refusal : (h : Head) (t : List ℕ) (slot code : ℕ) → Refused (λ (a : Moved). a.number) moveRefusal t (moved_in h t slot code)
+moved_refusal : (h : Head) (t : List ℕ) (slot code : ℕ) → Refused (λ (a : Moved). a.number) move_refusal t (moved_in h t slot code)
 moved_refusal h t slot code u =
     let m = moved_number h t slot code in
-    moved_refused h t slot code refl (λ e. u (m ∙ e)) ∙ ap (λ (n : ℕ). outcome (moveRefusal n) t) (sym m)
+    moved_refused h t slot code refl (λ e. u (m ∙ e)) ∙ ap (λ (n : ℕ). outcome (move_refusal n) t) (sym m)
 
-pub move_refused : (s : List ℕ) (slot code : ℕ) → Refused (λ (a : Moved). a.number) moveRefusal s (moved_slice s slot code)
+pub move_refused : (s : List ℕ) (slot code : ℕ) → Refused (λ (a : Moved). a.number) move_refusal s (moved_slice s slot code)
 unfolding moved_slice
-move_refused s slot code = sliced (λ a. a.number) moveRefusal (λ n. refl) s (λ h t. moved_in h t slot code) (λ h t. moved_refusal h t slot code)
+move_refused s slot code = sliced (λ a. a.number) move_refusal (λ n. refl) s (λ h t. moved_in h t slot code) (λ h t. moved_refusal h t slot code)
 
-pub read_refused : (s : List ℕ) (slot : ℕ) → Refused (λ (a : Reading). a.number) readRefusal s (read_slice s slot)
+pub read_refused : (s : List ℕ) (slot : ℕ) → Refused (λ (a : Reading). a.number) read_refusal s (read_slice s slot)
 unfolding read_slice read_in
 read_refused s slot =
-    sliced (λ a. a.number) readRefusal (λ n. refl) s (λ h t. read_in h t slot)
-    (λ h t. by_rows (λ a. a.number) readRefusal (λ n. refl) (slot_rows h t slot) _ t refl)
+    sliced (λ a. a.number) read_refusal (λ n. refl) s (λ h t. read_in h t slot)
+    (λ h t. by_rows (λ a. a.number) read_refusal (λ n. refl) (slot_rows h t slot) _ t refl)
