@@ -6,7 +6,7 @@ use Prim.Native.Nat.{ℕ}
 use mathlib.Core.Path.{◌≡◌, ap}
 use mathlib.Core.List.{List}
 use contract.Lifetimes.{Lfts}
-use denote.Ref.{MutBor, at_last}
+use denote.Ref.{Bor, MutBor, at_last}
 use Rattle.table.proofs.CallLaws.{both}
 use Rattle.listing.specs.declared.answering.Listed.{Listed}
 use Rattle.listing.specs.declared.sending.Sent.{Sent}
@@ -16,7 +16,7 @@ use Rattle.listing.proofs.answering.check_line.Reads as check-line-reads
 use Rattle.listing.proofs.answering.list_table.Reads as list-table-reads
 use Rattle.listing.proofs.sending.send_outward.Reads as send-outward-reads
 
-module _ (κs : Lfts 2) (s out : MutBor (List ℕ)) where
+module _ (κs : Lfts 2) (s : Bor (List ℕ)) (out : MutBor (List ℕ)) where
   abbrev pub ListTableAllows : Listed → List ℕ → Type 0
   ListTableAllows r u = list-table-reads.Post κs (s, (out, tt)) r (s, (at_last out u, tt))
 
@@ -35,7 +35,7 @@ module _ (κs : Lfts 2) (s out : MutBor (List ℕ)) where
   pub check_line_asks_nothing : check-line-reads.Asked κs (s, (out, tt))
   check_line_asks_nothing = tt
 
-module _ (κs : Lfts 3) (s out line : MutBor (List ℕ)) where
+module _ (κs : Lfts 3) (s : Bor (List ℕ)) (out line : MutBor (List ℕ)) where
   abbrev pub SendOutwardAllows : Sent → List ℕ → List ℕ → Type 0
   SendOutwardAllows r u v = send-outward-reads.Post κs (s, (out, (line, tt))) r (s, (at_last out u, (at_last line v, tt)))
 
