@@ -3,11 +3,8 @@
 use Prim.Native.Nat.{ℕ, ◌-◌, ◌≤◌, ◌<◌}
 use mathlib.Core.Path.{◌≡◌, refl, sym, ap, ◌∙◌}
 use mathlib.Core.Bool.{true, ◌||◌}
-use mathlib.Core.List.{List, [], ◌∷◌, ◌++◌}
-use mathlib.Core.Logic.{⊎_elim}
+use mathlib.Core.List.{List, ◌++◌}
 use native.Mathlib.Omega.{arith}
-use denote.Enum.Declared.{tag_of}
-use types.Run.{OneOf}
 use lib.Dec.{ltb}
 use lib.ListN.{length, take, drop, length-append}
 use lib.Seq.{length-take-le}
@@ -29,15 +26,11 @@ use Rattle.survey.specs.declared.copying.Copied.TheVariants as copied
 use Rattle.survey.specs.Check.{fault_in, fault_or, unless_fault, read_by, on_passing}
 use Rattle.survey.specs.Copy.{veiled, copied_in, copied_slice}
 use Rattle.survey.proofs.ShownLaws.{length-veiled}
-use Rattle.survey.specs.contracts.copying.Copied.{the_type}
 use Rattle.listing.specs.declared.sending.Sent.{Sent}
 use Rattle.listing.specs.Output.{most, verdict, line_room}
 use Rattle.listing.specs.Outward.{Sending, copy_alone, words_alone, withheld, copy_of, sent_of, copy_room, sent, laid, sent_into}
 
 -- ---- which of the two
-
-not_done : {A : Type 0} (c : Copied) → c ≡ copied.Done → OneOf (1 ∷ 2 ∷ 3 ∷ []) (tag_of the_type c) → A
-not_done c e k = clash (⊎_elim (λ i. cc) (λ j. ⊎_elim (λ i. cc) (λ i. cc) j) k)
 
 module _ (s : List ℕ) where
   pub sent-long : most < length s → sent_of s ≡ words_alone (verdict s)
@@ -85,11 +78,11 @@ module _ (s : List ℕ) where
         copied_all f = copied_is Nowhere f ∙ cond_true _ _ (eq-eqb _ _ (m ∙ sym (length-table s e)))
 
         -- past an `else` of `Done`, whose tag is 0
-        pub sent_refused : OneOf (1 ∷ 2 ∷ 3 ∷ []) (tag_of the_type c) → (sent_of s ≡ words_alone (verdict s)) × (b ≡ o)
+        pub sent_refused : (c ≡ copied.Done → ⊥) → (sent_of s ≡ words_alone (verdict s)) × (b ≡ o)
         sent_refused k = go (fault_in h table) refl
           where
             go : (x : Lowest) → fault_in h table ≡ x → (sent_of s ≡ words_alone (verdict s)) × (b ≡ o)
-            go Nowhere f = not_done c (both _ (copied_all f) refl).0 k
+            go Nowhere f = absurd (k (both _ (copied_all f) refl).0)
             go (At place) f = (sent_is (At place) f, (both _ (copied_is (At place) f) refl).1)
 
         pub sent-done : c ≡ copied.Done → (sent_of s ≡ copy_alone b) × (length b ≡ h.size)
