@@ -2,21 +2,23 @@
 -- place; and what each keeps of the rule wherever a packet is to go on.
 -- Assumes nothing.
 use Prim.Native.Nat.{ℕ}
+use native.Mathlib.Omega.{arith}
 use mathlib.Core.Path.{◌≡◌, refl, sym, ◌∙◌}
-use mathlib.Core.Bool.{Bool, true, false, not, cond, ◌&&◌}
+use mathlib.Core.Bool.{Bool, true, false, cond, ◌&&◌}
 use mathlib.Core.Logic.{◌⊎◌, inl, inr}
 use Rattle.network.specs.declared.Kind.{Kind}
 use Rattle.network.specs.declared.Kind.TheVariants.{Waiting, A, B}
 use Rattle.network.specs.declared.Place.{Place}
 use Rattle.network.specs.declared.Lead.{Lead}
-use Rattle.network.specs.declared.Lead.TheVariants.{Hop, Turn, Out, NotOffered}
+use Rattle.network.specs.declared.Lead.TheVariants.{Hop, NotOffered}
 use Rattle.network.specs.Net.{at}
 use Rattle.network.proofs.Tests.{and_both, clash}
 use Rattle.mesh.specs.declared.Profile.{Profile}
 use Rattle.mesh.specs.declared.Profile.TheVariants.{Full, Adapt, Oblivious}
 use Rattle.mesh.specs.declared.Step.{Step}
+use Rattle.mesh.specs.declared.Step.TheVariants.{Right, Left, Up}
 use Rattle.mesh.specs.declared.Signs.{Signs}
-use Rattle.mesh.specs.Rule.{step_of, signs_of, settled_by, arrived_by, in_each, offers, is_static, is_chosen, keeps, leads, ruled}
+use Rattle.mesh.specs.Rule.{step_of, signs_of, in_each, offers, is_static, is_chosen, keeps, leads, ruled}
 use Rattle.mesh.specs.Published.{published}
 use Rattle.mesh.proofs.Hops.{unknown_never}
 use Rattle.mesh.proofs.Codes.{by_code}
@@ -41,27 +43,13 @@ offered_by_full profile p d c = rw (← published_is profile p d c, ← publishe
 
 -- ---- one hop
 
--- its code, in A and in B
+-- the first of the hops that are kept, by its code
 abbrev the_hop : Kind → Signs → ℕ
-the_hop Waiting s = 0
-the_hop A s = cond s.right 2 4
-the_hop B s = cond s.left 3 5
-
-first_hop : (t : Bool) (l : Lead) (a b n : ℕ) → cond t l NotOffered ≡ Hop n → a ≡ cond t a b
-first_hop true l a b n e = refl
-first_hop false l a b n e = clash cc
-
-other_hop : (t u : Bool) (l : Lead) (a b n : ℕ) → cond (not t && u) l NotOffered ≡ Hop n → b ≡ cond t a b
-other_hop true u l a b n e = clash cc
-other_hop false u l a b n e = refl
-
-no_turn : (t : Bool) (k : Kind) {n : ℕ} {X : Type 0} → cond t (Turn k) NotOffered ≡ Hop n → X
-no_turn true k e = clash cc
-no_turn false k e = clash cc
-
-no_out : (t : Bool) {n : ℕ} {X : Type 0} → cond t Out NotOffered ≡ Hop n → X
-no_out true e = clash cc
-no_out false e = clash cc
+the_hop k s =
+    cond (keeps Oblivious Right s k && offers Right s k) 2
+    (cond (keeps Oblivious Left s k && offers Left s k) 3
+    (cond (keeps Oblivious Up s k && offers Up s k) 4
+    5))
 
 module _ (m d : ℕ) where
   abbrev s : Signs
@@ -85,22 +73,22 @@ module _ (m d : ℕ) where
   only A =
       by_code (Only A)
       (λ n e. clash cc)
-      (λ n e. first_hop s.right _ 2 4 n e)
+      (λ n e. grind arith)
       (λ n e. clash cc)
-      (λ n e. other_hop s.right s.up _ 2 4 n e)
+      (λ n e. grind arith)
       (λ n e. clash cc)
-      (λ n e. no_turn (not (arrived_by s) && settled_by s) B e)
-      (λ n e. no_out (arrived_by s) e)
+      (λ n e. grind arith)
+      (λ n e. grind arith)
       (λ c u n e. clash (cc (unknown_never Oblivious (at m A) d c u)))
   only B =
       by_code (Only B)
       (λ n e. clash cc)
       (λ n e. clash cc)
-      (λ n e. first_hop s.left _ 3 5 n e)
+      (λ n e. grind arith)
       (λ n e. clash cc)
-      (λ n e. other_hop s.left s.down _ 3 5 n e)
+      (λ n e. grind arith)
       (λ n e. clash cc)
-      (λ n e. no_out (arrived_by s) e)
+      (λ n e. grind arith)
       (λ c u n e. clash (cc (unknown_never Oblivious (at m B) d c u)))
 
 pub one_hop_lem : (p : Place) (d c c' n n' : ℕ) → published Oblivious p d c ≡ Hop n → published Oblivious p d c' ≡ Hop n' → c ≡ c'

@@ -1,4 +1,4 @@
--- A difference of address bytes is below 2^15, so the sum of two magnitudes fits.
+-- Each magnitude is that of a difference read back from its bits, and the distance is their sum.
 use Rattle.std.proofs.Common.{rules}
 use Rattle.mesh.specs.Grid.{distance_of}
 use Rattle.mesh.proofs.distance.Goals as goal
