@@ -1,11 +1,13 @@
 // Reads a table from standard input, and writes its listing to standard output.
 #![tactic(auto)]
 
-fn main() {
+use std::io;
+
+fn main(rt: HostRuntime) -> io::Result<()> {
     let mut input = listing::input_room();
-    let n = io::read_full(libc::STDIN_FILENO, &mut input);
+    let n = reading::read_full(&mut rt.stdin(), &mut input)?;
     let mut out = listing::output_room();
     let listed = listing::list_table(&input[..n], &mut out);
     let length = listed.length;
-    io::write_all(libc::STDOUT_FILENO, &out[..length]);
+    rt.write_all(&out[..length])
 }

@@ -30,7 +30,7 @@ fn fill(s: &mut [u8], b: u8) {
     }
 }
 
-pub fn lend(c: &[u8], room: &mut [u8], second: usize) -> Lent
+pub fn lend(rt: &impl Print, c: &[u8], room: &mut [u8], second: usize) -> Lent
     requires { length c.now ≡ 5 }
     ensures slice_in_bounds { result.slice ≤ length room.old }
     ensures second_le_second { result.second ≤ second }
@@ -40,7 +40,7 @@ pub fn lend(c: &[u8], room: &mut [u8], second: usize) -> Lent
         return malformed();
     }
     fill(&mut room[..slice], 0);
-    saying::lent(slice);
+    saying::lent(rt, slice);
     Lent {
         fine: true,
         slice,
@@ -59,12 +59,12 @@ pub fn set_byte(c: &[u8], s: &mut [u8]) -> bool
     true
 }
 
-fn copy_over(s: &[u8], out: &mut [u8], b: u8) {
+fn copy_over(rt: &impl Print, s: &[u8], out: &mut [u8], b: u8) {
     fill(out, b);
-    calls::copy_outward(s, out);
+    calls::copy_outward(rt, s, out);
 }
 
-pub fn copy_outward(c: &[u8], s: &[u8], copy: &mut [u8]) -> Lent
+pub fn copy_outward(rt: &impl Print, c: &[u8], s: &[u8], copy: &mut [u8]) -> Lent
     requires { length c.now ≡ 6 }
     ensures slice_in_bounds { result.slice ≤ length s.now }
     ensures second_in_bounds { result.second ≤ length copy.old }
@@ -73,7 +73,7 @@ pub fn copy_outward(c: &[u8], s: &[u8], copy: &mut [u8]) -> Lent
     if copy.len() < second {
         return malformed();
     }
-    copy_over(s, &mut copy[..second], c[5]);
+    copy_over(rt, s, &mut copy[..second], c[5]);
     Lent {
         fine: true,
         slice: s.len(),

@@ -7,21 +7,27 @@ mod saying;
 mod script;
 mod sizes;
 
-// Is there a byte left on standard input?
-fn more() -> bool {
+use std::io;
+use std::io::Read;
+
+// Is there a byte left of the input?
+fn more<R: Read>(input: &mut R) -> io::Result<bool> {
     let mut b = [0u8; 1];
-    io::read_full(libc::STDIN_FILENO, &mut b) == 1
+    Ok(reading::read_full(input, &mut b)? == 1)
 }
 
-fn main() {
-    let mut bytes = io::large_buffer();
-    let size = io::read_full(libc::STDIN_FILENO, &mut bytes);
+fn main(rt: HostRuntime) -> io::Result<()> {
+    let mut input = rt.stdin();
+    let mut bytes = [0u8; 65536];
+    let size = reading::read_full(&mut input, &mut bytes)?;
     if size == bytes.len() {
-        if more() {
-            return saying::malformed(size);
+        if more(&mut input)? {
+            saying::malformed(&rt, size);
+            return Ok(());
         }
     }
-    let mut room = io::large_buffer();
-    let mut copy = io::large_buffer();
-    script::run(&bytes[..size], &mut room, &mut copy);
+    let mut room = [0u8; 65536];
+    let mut copy = [0u8; 65536];
+    script::run(&rt, &bytes[..size], &mut room, &mut copy);
+    Ok(())
 }

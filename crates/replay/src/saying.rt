@@ -1,21 +1,21 @@
-// Lines on standard output: words, decimal numbers, and bytes as hexadecimal.
+// Lines on standard output: words, decimal numbers, and bytes as hexadecimal. What can't be written is passed over.
 ghost use Rattle.std.specs.Prelude.{◌*◌, ◌≤◌, ◌<◌, length};
 
-// The bytes whose digits io::buffer() has room for.
+// The bytes whose digits are written at once.
 const PART: usize = 2048;
 
-pub fn word(text: &[u8]) {
-    io::write_all(libc::STDOUT_FILENO, text);
+pub fn word(rt: &impl Print, text: &[u8]) {
+    let _ = rt.write_all(text);
 }
 
-fn number(n: u64) {
-    io::print_decimal(libc::STDOUT_FILENO, n);
+fn number(rt: &impl Print, n: u64) {
+    let _ = rt.print(n);
 }
 
 // ` N`
-pub fn value(n: u32) {
-    word(b" ");
-    number(n as u64);
+pub fn value(rt: &impl Print, n: u32) {
+    word(rt, b" ");
+    number(rt, n as u64);
 }
 
 fn digit(n: u8) -> u8
@@ -39,41 +39,41 @@ fn put_digits(out: &mut [u8], s: &[u8])
     }
 }
 
-fn part(s: &[u8])
+fn part(rt: &impl Print, s: &[u8])
     requires { length s.now ≤ 2048 }
 {
-    let mut text = io::buffer();
+    let mut text = [0u8; 2 * PART];
     put_digits(&mut text, s);
-    word(&text[..2 * s.len()]);
+    word(rt, &text[..2 * s.len()]);
 }
 
 // ` BYTES`, and ` -` where there are none
-pub fn bytes(s: &[u8]) {
-    word(b" ");
+pub fn bytes(rt: &impl Print, s: &[u8]) {
+    word(rt, b" ");
     if s.len() == 0 {
-        word(b"-");
+        word(rt, b"-");
         return;
     }
     let mut at = 0;
     while at + PART < s.len() {
-        part(&s[at..at + PART]);
+        part(rt, &s[at..at + PART]);
         at += PART;
     }
-    part(&s[at..]);
+    part(rt, &s[at..]);
 }
 
-pub fn end() {
-    word(b"\n");
+pub fn end(rt: &impl Print) {
+    word(rt, b"\n");
 }
 
-pub fn lent(length: usize) {
-    word(b"slice ");
-    number(length as u64);
-    end();
+pub fn lent(rt: &impl Print, length: usize) {
+    word(rt, b"slice ");
+    number(rt, length as u64);
+    end(rt);
 }
 
-pub fn malformed(offset: usize) {
-    word(b"malformed at ");
-    number(offset as u64);
-    end();
+pub fn malformed(rt: &impl Print, offset: usize) {
+    word(rt, b"malformed at ");
+    number(rt, offset as u64);
+    end(rt);
 }

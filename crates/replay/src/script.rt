@@ -6,22 +6,30 @@ use crate::buffers::Lent;
 use crate::{buffers, calls, saying};
 
 // The commands that are always well formed, and leave both lengths as they are. `D` is the letter that the others leave.
-fn carry_out(letter: u8, c: &[u8], s: &mut [u8], second: &[u8])
+fn carry_out(rt: &impl Print, letter: u8, c: &[u8], s: &mut [u8], second: &[u8])
     requires { length c.now ≡ size_of letter }
 {
     match letter {
-        b'C' => calls::clear(c, s),
-        b'T' => calls::take_in(c, s),
-        b'M' => calls::make_move(c, s),
-        b'P' => calls::read_payload(c, s),
-        b'F' => calls::full_check(s),
-        b'N' => calls::find(s),
-        b'W' => calls::show(b"bytes", s),
-        _ => calls::show(b"second", second),
+        b'C' => calls::clear(rt, c, s),
+        b'T' => calls::take_in(rt, c, s),
+        b'M' => calls::make_move(rt, c, s),
+        b'P' => calls::read_payload(rt, c, s),
+        b'F' => calls::full_check(rt, s),
+        b'N' => calls::find(rt, s),
+        b'W' => calls::show(rt, b"bytes", s),
+        _ => calls::show(rt, b"second", second),
     }
 }
 
-fn step(letter: u8, c: &[u8], room: &mut [u8], copy: &mut [u8], slice: usize, second: usize) -> Lent
+fn step(
+    rt: &impl Print,
+    letter: u8,
+    c: &[u8],
+    room: &mut [u8],
+    copy: &mut [u8],
+    slice: usize,
+    second: usize,
+) -> Lent
     requires c_len { length c.now ≡ size_of letter }
     requires slice_in_bounds { slice ≤ length room.old }
     requires second_in_bounds { second ≤ length copy.old }
@@ -29,10 +37,10 @@ fn step(letter: u8, c: &[u8], room: &mut [u8], copy: &mut [u8], slice: usize, se
     ensures second_in_bounds_2 { result.second ≤ length copy.old }
 {
     if letter == b'L' {
-        return buffers::lend(c, room, second);
+        return buffers::lend(rt, c, room, second);
     }
     if letter == b'O' {
-        return buffers::copy_outward(c, &room[..slice], copy);
+        return buffers::copy_outward(rt, c, &room[..slice], copy);
     }
     if letter == b'S' {
         let fine = buffers::set_byte(c, &mut room[..slice]);
@@ -42,7 +50,7 @@ fn step(letter: u8, c: &[u8], room: &mut [u8], copy: &mut [u8], slice: usize, se
             second,
         };
     }
-    carry_out(letter, c, &mut room[..slice], &copy[..second]);
+    carry_out(rt, letter, c, &mut room[..slice], &copy[..second]);
     Lent {
         fine: true,
         slice,
@@ -50,7 +58,7 @@ fn step(letter: u8, c: &[u8], room: &mut [u8], copy: &mut [u8], slice: usize, se
     }
 }
 
-pub fn run(script: &[u8], room: &mut [u8], copy: &mut [u8]) {
+pub fn run(rt: &impl Print, script: &[u8], room: &mut [u8], copy: &mut [u8]) {
     let mut slice = 0;
     let mut second = 0;
     let mut at = 0;
@@ -58,14 +66,22 @@ pub fn run(script: &[u8], room: &mut [u8], copy: &mut [u8]) {
         let letter = script[at];
         let size = crate::sizes::size_of(letter);
         if size == 0 {
-            return saying::malformed(at);
+            return saying::malformed(rt, at);
         }
         if script.len() - at < size {
-            return saying::malformed(at);
+            return saying::malformed(rt, at);
         }
-        let lent = step(letter, &script[at..at + size], room, copy, slice, second);
+        let lent = step(
+            rt,
+            letter,
+            &script[at..at + size],
+            room,
+            copy,
+            slice,
+            second,
+        );
         if !lent.fine {
-            return saying::malformed(at);
+            return saying::malformed(rt, at);
         }
         slice = lent.slice;
         second = lent.second;

@@ -2,16 +2,17 @@
 // example, a busy 4 by 4, a 4 by 4 of profile 2 with packets under way, and the example with one payload byte in an empty slot.
 #![tactic(auto)]
 
+use std::io;
 use survey::finding::Found;
 
-fn send(t: &[u8]) {
-    io::write_all(libc::STDOUT_FILENO, t);
+fn send(rt: &impl Print, t: &[u8]) -> io::Result<()> {
+    rt.write_all(t)
 }
 
-fn fresh() {
+fn fresh(rt: &impl Print) -> io::Result<()> {
     let mut t = [0u8; 1296];
     router::clear(&mut t, 4, 4, 2, 0);
-    send(&t);
+    send(rt, &t)
 }
 
 fn fill_example(t: &mut [u8]) {
@@ -19,17 +20,17 @@ fn fill_example(t: &mut [u8]) {
     router::take_in(t, 0, 1, [112, 97, 110, 101, 103, 108, 111, 118]);
 }
 
-fn example() {
+fn example(rt: &impl Print) -> io::Result<()> {
     let mut t = [0u8; 112];
     fill_example(&mut t);
-    send(&t);
+    send(rt, &t)
 }
 
-fn spoiled() {
+fn spoiled(rt: &impl Print) -> io::Result<()> {
     let mut t = [0u8; 112];
     fill_example(&mut t);
     t[56] = 1;
-    send(&t);
+    send(rt, &t)
 }
 
 // From every node to the one across the board; an address off the board is refused.
@@ -57,7 +58,7 @@ fn follow_find(t: &mut [u8], moves: u8) {
     }
 }
 
-fn busy() {
+fn busy(rt: &impl Print) -> io::Result<()> {
     let mut t = [0u8; 1296];
     router::clear(&mut t, 4, 4, 2, 0);
     take_in_all(&mut t, 1);
@@ -65,21 +66,21 @@ fn busy() {
     take_in_all(&mut t, 2);
     follow_find(&mut t, 66);
     take_in_all(&mut t, 3);
-    send(&t);
+    send(rt, &t)
 }
 
-fn oblivious() {
+fn oblivious(rt: &impl Print) -> io::Result<()> {
     let mut t = [0u8; 1296];
     router::clear(&mut t, 4, 4, 2, 2);
     take_in_all(&mut t, 4);
     follow_find(&mut t, 40);
-    send(&t);
+    send(rt, &t)
 }
 
-fn main() {
-    fresh();
-    example();
-    busy();
-    oblivious();
-    spoiled();
+fn main(rt: HostRuntime) -> io::Result<()> {
+    fresh(&rt)?;
+    example(&rt)?;
+    busy(&rt)?;
+    oblivious(&rt)?;
+    spoiled(&rt)
 }
