@@ -32,15 +32,20 @@ fn open<R: Files>(rt: &R, path: &[u8]) -> io::Result<R::File> {
     }
 }
 
-// A line: what failed, a colon and why, without the number that std puts after the system's words.
+// The system's words for an error, without the number that std puts after them.
+fn words(error: &str) -> &str {
+    match error.split_once(" (os error ") {
+        Some((words, _)) => words,
+        None => error,
+    }
+}
+
+// A line: what failed, a colon and why.
 fn fail<R: Alloc>(rt: &R, errors: &impl Print, path: &[u8], why: io::Error) -> io::Result<()> {
     let text = format!(in rt.alloc(); "{why}")?;
-    let words = match text.split_once(" (os error ") {
-        Some((words, _)) => words,
-        None => text.as_str(),
-    };
     errors.write_all(path)?;
-    errors.println(format_args!(": {words}"))
+    errors.write_all(b": ")?;
+    errors.println(words(text.as_str()))
 }
 
 fn list_file<R: Files + Print + Alloc>(rt: &R, errors: &impl Print, path: &[u8]) -> io::Result<()> {

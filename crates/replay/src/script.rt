@@ -6,6 +6,7 @@ use crate::buffers::Lent;
 use crate::{buffers, calls, saying};
 
 // The commands that are always well formed, and leave both lengths as they are. `D` is the letter that the others leave.
+#[tactic(auto, unfolding(crate::specs::Sizes::size_of))]
 fn carry_out(rt: &impl Print, letter: u8, c: &[u8], s: &mut [u8], second: &[u8])
     requires { length c.now ≡ size_of letter }
 {
@@ -21,6 +22,7 @@ fn carry_out(rt: &impl Print, letter: u8, c: &[u8], s: &mut [u8], second: &[u8])
     }
 }
 
+#[tactic(auto, unfolding(crate::specs::Sizes::size_of))]
 fn step(
     rt: &impl Print,
     letter: u8,

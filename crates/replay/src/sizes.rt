@@ -3,6 +3,7 @@ ghost use Rattle.std.specs.Prelude.{◌≡◌};
 ghost use Rattle.replay.specs.Sizes.{size_of};
 
 // The bytes of a command, its letter among them; 0 for a letter that is none.
+#[tactic(auto, unfolding(crate::specs::Sizes::size_of))]
 pub fn size_of(letter: u8) -> usize
     ensures { result ≡ size_of letter }
 {
