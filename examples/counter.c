@@ -3,7 +3,7 @@
  * find until nothing is held, and list it again. At the end a packet in A gives way to one in B.
  * It prints each answer and exits 1 if anything is not as promised.
  *
- *     rt staticlib paneglove
+ *     tools/archive
  *     cc -std=c99 -Wall -Wextra -pedantic -Iinclude examples/counter.c target/staticlib/libpaneglove.a -o target/counter
  *     target/counter
  */
