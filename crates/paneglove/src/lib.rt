@@ -1,6 +1,6 @@
-// The boundary for C and Rust: document 01's seven calls and the listing as exported functions, with structs that C can hold. None of them requires anything:
-// every slice and every number is answered. A refusal changes no byte of any lent slice, and beside its number answers zeros, but for the place that
-// 10 names. `include/paneglove.h` declares them.
+// The boundary for C and Rust: document 01's seven calls and the listing, with structs that C can hold; `paneglove_c` exports them, and
+// `include/paneglove.h` declares the exports. None of them requires anything: every slice and every number is answered. A refusal changes no byte of any
+// lent slice, and beside its number answers zeros, but for the place that 10 names.
 #![tactic(auto)]
 
 ghost use Rattle.std.specs.Prelude.{◌≡◌};
@@ -75,8 +75,7 @@ pub struct Listed {
 }
 
 // Refuses by 8 (width, height, depth or profile not accepted), then 9 (the slice is shorter than the table).
-#[unsafe(no_mangle)]
-pub extern "C" fn paneglove_clear(
+pub fn paneglove_clear(
     s: &mut [u8],
     width: u32,
     height: u32,
@@ -89,8 +88,7 @@ pub extern "C" fn paneglove_clear(
 }
 
 // Refuses by 1 (trailer), 2 (source or destination off the grid), 7 (no serial is left), then 6 (the source's waiting slot is held).
-#[unsafe(no_mangle)]
-pub extern "C" fn paneglove_take_in(
+pub fn paneglove_take_in(
     s: &mut [u8],
     source: u8,
     destination: u8,
@@ -110,8 +108,7 @@ pub extern "C" fn paneglove_take_in(
 
 // Refuses by 1 (trailer), 2 (no such slot, or no such code), 3 (the slot is empty), 4 (it is spoiled), 5 (the rule doesn't offer the move), 12
 // (a good packet in the node's B queue goes first on the link), then 6 (the target queue has no empty slot).
-#[unsafe(no_mangle)]
-pub extern "C" fn paneglove_make_move(s: &mut [u8], slot: u32, code: u32) -> Moved
+pub fn paneglove_make_move(s: &mut [u8], slot: u32, code: u32) -> Moved
     ensures { outcome result s.new ≡ moved_across s.old slot code }
 {
     let a = router::make_move(s, slot, code);
@@ -126,8 +123,7 @@ pub extern "C" fn paneglove_make_move(s: &mut [u8], slot: u32, code: u32) -> Mov
 
 // Refuses by 1 (trailer), 2 (no such slot), 3 (it is empty), then 4 (it is spoiled). A part of the slice can't cross, so the payload crosses by
 // value.
-#[unsafe(no_mangle)]
-pub extern "C" fn paneglove_read_payload(s: &[u8], slot: u32) -> Read
+pub fn paneglove_read_payload(s: &[u8], slot: u32) -> Read
     ensures { result ≡ read_across (read_slice s.now slot).answer }
 {
     let mut number: u32 = 0;
@@ -141,8 +137,7 @@ pub extern "C" fn paneglove_read_payload(s: &[u8], slot: u32) -> Read
 }
 
 // Refuses by 1 (trailer), then 10 (the check failed; the place is answered).
-#[unsafe(no_mangle)]
-pub extern "C" fn paneglove_full_check(s: &[u8]) -> Checked
+pub fn paneglove_full_check(s: &[u8]) -> Checked
     ensures { result ≡ check_across (check_answer (checked_slice s.now)) }
 {
     let a = checking::answer_of(survey::full_check(s));
@@ -153,8 +148,7 @@ pub extern "C" fn paneglove_full_check(s: &[u8]) -> Checked
 }
 
 // Refuses by 1 (trailer), 10 (the check failed; the place is answered as the slot), then 11 (no slot is held).
-#[unsafe(no_mangle)]
-pub extern "C" fn paneglove_find(s: &[u8]) -> Found
+pub fn paneglove_find(s: &[u8]) -> Found
     ensures { result ≡ find_across (find_answer (found_slice s.now)) }
 {
     let a = finding::answer_of(survey::find(s));
@@ -167,8 +161,7 @@ pub extern "C" fn paneglove_find(s: &[u8]) -> Found
 
 // Refuses by 1 (trailer), 10 (the check failed; the place is answered), then 9 unless the second buffer has exactly the table's length. The two
 // buffers must not overlap: the types say so, and only a caller in another language can break it.
-#[unsafe(no_mangle)]
-pub extern "C" fn paneglove_copy_outward(s: &[u8], out: &mut [u8]) -> Copied
+pub fn paneglove_copy_outward(s: &[u8], out: &mut [u8]) -> Copied
     ensures { outcome result out.new ≡ copied_across s.now out.old }
 {
     let copied = survey::copy_outward(s, out);
@@ -181,8 +174,7 @@ pub extern "C" fn paneglove_copy_outward(s: &[u8], out: &mut [u8]) -> Copied
 
 // Refuses by 9 where the second buffer is shorter than the room, 226,637 bytes. Else the listing stands at its start, a refused table's in the
 // listing's own words, and its length is answered. The two buffers must not overlap.
-#[unsafe(no_mangle)]
-pub extern "C" fn paneglove_list(s: &[u8], out: &mut [u8]) -> Listed
+pub fn paneglove_list(s: &[u8], out: &mut [u8]) -> Listed
     ensures { outcome result out.new ≡ listed_across s.now out.old }
 {
     let a = listing::list_table(s, out);
