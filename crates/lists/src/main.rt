@@ -54,7 +54,10 @@ fn list_file<R: Files + Print + Alloc>(rt: &R, errors: &impl Print, path: &[u8])
         Err(why) => return fail(rt, errors, path, why),
     };
     let mut input = listing::input_room();
-    let n = reading::read_full(&mut file, &mut input)?;
+    let n = match reading::read_full(&mut file, &mut input) {
+        Ok(n) => n,
+        Err(why) => return fail(rt, errors, path, why),
+    };
     say(rt, path)?;
     say(rt, b": ")?;
     check(rt, &input[..n])?;
