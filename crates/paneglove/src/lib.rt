@@ -75,25 +75,14 @@ pub struct Listed {
 }
 
 // Refuses by 8 (width, height, depth or profile not accepted), then 9 (the slice is shorter than the table).
-pub fn paneglove_clear(
-    s: &mut [u8],
-    width: u32,
-    height: u32,
-    depth: u32,
-    profile: u32,
-) -> u32
+pub fn paneglove_clear(s: &mut [u8], width: u32, height: u32, depth: u32, profile: u32) -> u32
     ensures { outcome result s.new ≡ cleared_slice s.old (asked width height depth profile) }
 {
     router::clear(s, width, height, depth, profile)
 }
 
 // Refuses by 1 (trailer), 2 (source or destination off the grid), 7 (no serial is left), then 6 (the source's waiting slot is held).
-pub fn paneglove_take_in(
-    s: &mut [u8],
-    source: u8,
-    destination: u8,
-    payload: Payload,
-) -> Taken
+pub fn paneglove_take_in(s: &mut [u8], source: u8, destination: u8, payload: Payload) -> Taken
     ensures { outcome result s.new ≡ taken_across s.old source destination payload.bytes }
 {
     let bytes = payload.bytes;
