@@ -2,7 +2,7 @@
  * Paneglove: a packet table for one rectangular grid, document 01's seven calls on it, and its listing.
  *
  * tools/archive proves the calls and writes target/staticlib/libpaneglove.a, x86-64 code for Linux that needs C's memset and
- * nothing else. Its functions are those of crates/paneglove/src/lib.rt, each with its contract.
+ * nothing else. Its functions are those of crates/paneglove_c/src/lib.rt, each with its contract.
  *
  * A slice is a pointer and a length in bytes; the table is the slice's last part, and bytes before it are neither read nor written. What the
  * proofs ask of a caller is what a slice is: the pointer is good for that many bytes, to be read and, where it is not const, written, and
