@@ -44,8 +44,8 @@ module _ (empty hops : ℕ) where
 module _ (h : Head) (t : List ℕ) (here : Place) (code : ℕ) where
   ahead-number : (lead : Lead) → gives_way h t here code lead ≡ false → (ahead h.board t here lead).number ≡ first_due (lead_rows h t here code lead)
   unfolding ahead
-  ahead-number (Hop n) f = into-number (empties_at _ t (at n here.kind)) 1 (room_at _ t (at n here.kind)) ∙ sym (cond_false _ _ f)
-  ahead-number (Turn k) f = into-number (empties_at _ t (at here.node k)) 0 (room_at _ t (at here.node k)) ∙ sym (cond_false _ _ f)
+  ahead-number (Hop n) f = rw f (into-number (empties_at h.board t (at n here.kind)) 1 (room_at h.board t (at n here.kind)))
+  ahead-number (Turn k) f = rw f (into-number (empties_at h.board t (at here.node k)) 0 (room_at h.board t (at here.node k)))
   ahead-number Out f = sym (cond_false _ _ f)
   ahead-number NotOffered f = refl
 

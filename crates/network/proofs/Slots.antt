@@ -13,7 +13,7 @@ use Rattle.network.specs.Net.{Net, NetLaws, at}
 use Rattle.network.specs.Packet.{Packet, Item, Delivery, GoodItem}
 use Rattle.network.specs.Contents.{Passing}
 use Rattle.network.specs.View.{Slot, empty, held, Layout, LayoutLaws, View, item_at, seen, items_of, contents}
-use Rattle.network.specs.Run.{Answer, delivered, trace}
+use Rattle.network.specs.Run.{Answer, trace}
 use Rattle.network.specs.Machine.{Stepped, Left, Open, leaves, hops, turns, Vacant, RightOfWay, Machine}
 use Rattle.network.specs.Table.{Vacated, Entered, Carried, HandedOut, HasRoom, TableMachine}
 use Rattle.network.specs.Drain.{Drains}

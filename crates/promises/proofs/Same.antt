@@ -28,7 +28,7 @@ use Rattle.router.specs.declared.moving.Moved.{Moved}
 use Rattle.router.specs.declared.taking.Taken.{Taken}
 use Rattle.calls.specs.Slices.{Bytes, head_in, board_in, GoodIn, layout_in, slots_in, slot_in, place_in}
 use Rattle.promises.specs.Conditions.{SpoiledAt, RepeatsAt, NoneBelow, FaultAt, spoiled, repeated, miscounted, EmptyOf, room_left}
-use Rattle.promises.specs.Demand1.{Grounds, end, Refuses, Placed}
+use Rattle.promises.specs.Demand1.{Grounds, Refuses, Placed}
 use Rattle.promises.specs.Demand2.{Kept, Goes, Leaves, OneStep, Shows}
 use Rattle.promises.specs.Answers.{Fresh, Enters}
 use Rattle.promises.proofs.Reading.{good_in, bad_in}

@@ -33,7 +33,7 @@ fn fill(s: &mut [u8], b: u8) {
 pub fn lend(rt: &impl Print, c: &[u8], room: &mut [u8], second: usize) -> Lent
     requires { length c.now ≡ 5 }
     ensures slice_in_bounds { result.slice ≤ length room.old }
-    ensures second_le_second { result.second ≤ second }
+    ensures second_kept { result.second ≤ second }
 {
     let slice = slots::number::get32(c, 1) as usize;
     if room.len() < slice {

@@ -35,8 +35,8 @@ fn step(
     requires c_len { length c.now ≡ size_of letter }
     requires slice_in_bounds { slice ≤ length room.old }
     requires second_in_bounds { second ≤ length copy.old }
-    ensures slice_in_bounds_2 { result.slice ≤ length room.old }
-    ensures second_in_bounds_2 { result.second ≤ length copy.old }
+    ensures slice_kept { result.slice ≤ length room.old }
+    ensures second_kept { result.second ≤ length copy.old }
 {
     if letter == b'L' {
         return buffers::lend(rt, c, room, second);

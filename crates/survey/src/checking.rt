@@ -98,7 +98,7 @@ fn repeats(t: &[u8], flags: &mut [u8; 512], k: usize) -> bool
     requires k_in_bounds { 16 * k + 16 ≤ length t.now }
     requires met { Met t.now flags.old k }
     ensures value { result ≡ repeats_at t.now k }
-    ensures met_2 { Met t.now flags.new (k + 1) }
+    ensures met_next { Met t.now flags.new (k + 1) }
 {
     if !held(t, k) {
         return false;

@@ -8,7 +8,7 @@ use Rattle.network.proofs.Tests.{held, failed, cond_true, cond_false}
 use Rattle.network.proofs.SearchLaws.{lowest_step}
 use Rattle.board.specs.Layout.{layout_of}
 use Rattle.board.proofs.BoardLaws.{queue_within, slots_most}
-use Rattle.way.specs.Way.{hops_at, first_hop_in_b}
+use Rattle.way.specs.Way.{first_hop_in_b}
 use Rattle.way.proofs.hop_in_b.Goals as goal
 
 pub first_slot-k-requires : goal.first_slot-k-requires

@@ -1,5 +1,4 @@
 -- Each arm by the rule's answer.
-use Rattle.std.proofs.Common.{refl}
 use Rattle.table.proofs.QueueLaws.{room_counted}
 use Rattle.judging.specs.Verdicts.{ahead}
 use Rattle.judging.proofs.moves.go_ahead.Goals as goal

@@ -6,7 +6,6 @@ use Rattle.network.proofs.Tests.{cond_true, held, failed}
 use Rattle.board.specs.Board.{net_of}
 use Rattle.board.proofs.BoardLaws.{layout_laws, slot_fits}
 use Rattle.way.specs.Way.{gives_way}
-use Rattle.way.proofs.WayLaws.{stopped}
 use Rattle.judging.specs.Moves.{lead_of, move_due}
 use Rattle.judging.specs.Verdicts.{ahead}
 use Rattle.judging.proofs.NamedLaws.{due_named, targets}

@@ -34,7 +34,7 @@ pub loop-k-preserved : goal.loop-k-preserved
 loop-k-preserved c =
     let at = c.loop-k in (
       omega arith,
-      c.repeats.ensures.met_2,
+      c.repeats.ensures.met_next,
       at.invariant.2 ∙ lowest_step _ at.k _ c.loop-k-test.true
           ∙ cond_false _ _ (failed c.repeats.ensures.value c.if-repeats.false),
     )

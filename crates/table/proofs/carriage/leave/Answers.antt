@@ -1,10 +1,6 @@
-use Rattle.table.proofs.carriage.leave.Goals as goal
--- `table::carriage::leave` meets its contract.
--- Assumes nothing.
-use borrow.Author.Rules.{rules}
+-- What leaving does is to clear the slot.
 use Rattle.table.specs.Carriage.{vacated}
-use Rattle.table.proofs.carriage.leave.Statement.{statement}
-use Rattle.table.proofs.carriage.leave.Tie as tie
+use Rattle.table.proofs.carriage.leave.Goals as goal
 
 pub returns : goal.returns
 unfolding vacated

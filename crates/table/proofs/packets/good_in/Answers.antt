@@ -17,11 +17,11 @@ fails : {g b : Bool} → b ≡ false → (g ≡ true → b ≡ true) → false �
 fails {g = true} e f = sym e ∙ f refl
 fails {g = false} e f = refl
 
-course-tests : (b : Board) (here : ℕ) (f : Fields) → course_ok b here f ≡ true
+course_tests : (b : Board) (here : ℕ) (f : Fields) → course_ok b here f ≡ true
     → (eqb f.hops ((net_of b).distance f.source here) ≡ true)
     × (eqb (f.hops + (net_of b).distance here f.destination) ((net_of b).distance f.source f.destination) ≡ true)
 unfolding course_ok
-course-tests b here f e = both_true _ _ e
+course_tests b here f e = both_true _ _ e
 
 pub returns-then-f-ne1 : goal.returns-then-f-ne1
 unfolding good
@@ -51,7 +51,7 @@ pub returns : goal.returns
 unfolding good
 returns c =
     let a = c.args in
-    let course = course-tests a.h.board a.here.node a.f (held c.course_ok.ensures c.if-not-course_ok.false) in
+    let course = course_tests a.h.board a.here.node a.f (held c.course_ok.ensures c.if-not-course_ok.false) in
     c.fits_kind.ensures
     ∙ sym
     (and_yes (eq-eqb _ _ c.if-f-ne1.false)

@@ -1,5 +1,5 @@
 -- What is found so far is what the slots from k on have.
-use Prim.Native.Nat.{◌≤◌, ◌+◌, ◌-◌}
+use Prim.Native.Nat.{◌≤◌, ◌+◌}
 use Rattle.table.proofs.Searched.{Found}
 use Rattle.table.proofs.queues.search.Given as goal
 
