@@ -6,6 +6,8 @@ ghost use Rattle.board.specs.Layout.{kind_of, offset, node_of, layout_of, table_
 use crate::Board;
 use network::{Kind, Place};
 
+// Each call asks for `GoodBoard` itself: above, `Table` carries it, and a type of good boards would be made at each of these calls and be no plainer.
+
 // How many slots a table has.
 #[tactic(auto, unfolding(crate::specs::Layout::layout_of))]
 pub fn slots_of(b: Board) -> usize
@@ -16,6 +18,7 @@ pub fn slots_of(b: Board) -> usize
 }
 
 // How many bytes.
+#[tactic(auto, using(crate::proofs::BoardLaws::slots_most))]
 pub fn table_size(b: Board) -> usize
     requires { GoodBoard b }
     ensures { result ≡ table_size b }
@@ -27,16 +30,14 @@ pub fn table_size(b: Board) -> usize
 fn kind_of(depth: usize, r: usize) -> Kind
     ensures { result ≡ kind_of depth r }
 {
-    if r == 0 {
-        return Kind::Waiting;
+    match r {
+        0 => Kind::Waiting,
+        _ if r <= depth => Kind::A,
+        _ => Kind::B,
     }
-    if r <= depth {
-        return Kind::A;
-    }
-    Kind::B
 }
 
-// The address byte of the node with number `m`.
+// The address byte of the node with number `m`. It is asked to fit, so that a `try_from` here would have no other case.
 fn node_of(width: usize, m: usize) -> u8
     requires le_width { 1 ≤ width }
     requires width_bound { width ≤ 16 }
@@ -52,11 +53,11 @@ pub fn place_of(b: Board, slot: usize) -> Place
     requires slot_bound { slot < (layout_of b).size }
     ensures { result ≡ (layout_of b).place_of slot }
 {
-    let depth = b.depth;
-    let per_node = 1 + 2 * depth;
-    let node = node_of(b.width, slot / per_node);
-    let kind = kind_of(depth, slot % per_node);
-    Place { node, kind }
+    let per_node = 1 + 2 * b.depth;
+    Place {
+        node: node_of(b.width, slot / per_node),
+        kind: kind_of(b.depth, slot % per_node),
+    }
 }
 
 // The place in its node of a queue's first slot.
@@ -77,10 +78,8 @@ pub fn first_slot(b: Board, p: Place) -> usize
     requires { GoodBoard b }
     ensures { result ≡ (layout_of b).first p }
 {
-    let depth = b.depth;
-    let node = slots::wide(p.node);
-    let kind = p.kind;
-    (node / 16 * b.width + node % 16) * (1 + 2 * depth) + offset_of(depth, kind)
+    let node = usize::from(p.node);
+    (node / 16 * b.width + node % 16) * (1 + 2 * b.depth) + offset_of(b.depth, p.kind)
 }
 
 // How many slots a queue has.
@@ -88,10 +87,8 @@ pub fn first_slot(b: Board, p: Place) -> usize
 pub fn room_of(b: Board, kind: Kind) -> usize
     ensures { result ≡ (layout_of b).room kind }
 {
-    let depth = b.depth;
     match kind {
         Kind::Waiting => 1,
-        Kind::A => depth,
-        Kind::B => depth,
+        Kind::A | Kind::B => b.depth,
     }
 }

@@ -2,7 +2,7 @@
 #![tactic(auto)]
 
 ghost use Rattle.std.specs.Prelude.{◌≡◌};
-ghost use Rattle.board.specs.Board.{in_range, board_ok, net_of, coordinates_of};
+ghost use Rattle.board.specs.Board.{board_ok, net_of, coordinates_of};
 
 use network::{Lead, Place};
 
@@ -13,7 +13,7 @@ pub struct Board {
     pub width: usize,
     pub height: usize,
     pub depth: usize,
-    // which of the rule's moves it has: 0, 1 or 2
+    // which of the rule's moves it has: 0, 1 or 2; a number, since a board as it is read or asked for may have any, which `board_ok` refuses
     pub profile: usize,
 }
 
@@ -24,30 +24,15 @@ pub struct Coordinates {
     pub y: u8,
 }
 
-fn within(x: usize, low: usize, high: usize) -> bool
-    ensures { result ≡ in_range x low high }
-{
-    if x < low {
-        return false;
-    }
-    x <= high
-}
-
 // Are its sizes and its profile accepted?
 #[tactic(auto, unfolding(crate::specs::Board::board_ok))]
 pub fn board_ok(b: Board) -> bool
     ensures { result ≡ board_ok b }
 {
-    if !within(b.width, 1, 16) {
-        return false;
-    }
-    if !within(b.height, 1, 16) {
-        return false;
-    }
-    if !within(b.depth, 1, 7) {
-        return false;
-    }
-    b.profile <= 2
+    (1..=16).contains(&b.width)
+        && (1..=16).contains(&b.height)
+        && (1..=7).contains(&b.depth)
+        && b.profile <= 2
 }
 
 // Is there such a node?

@@ -4,11 +4,9 @@
 use Rattle.std.specs.Prelude.{ℕ, List}
 use Rattle.board.specs.declared.Board.{Board}
 use Rattle.table.specs.Calls.{Outcome, outcome}
-use Rattle.router.specs.declared.moving.Moved.{Moved}
-use Rattle.router.specs.declared.taking.Taken.{Taken}
 use Rattle.router.specs.Clear.{cleared_slice}
-use Rattle.router.specs.TakeIn.{taken_slice}
-use Rattle.router.specs.Move.{moved_slice}
+use Rattle.router.specs.TakeIn.{TakeAnswer, taken_slice}
+use Rattle.router.specs.Move.{MoveAnswer, moved_slice}
 use Rattle.router.specs.ReadPayload.{Reading, read_slice}
 use Rattle.survey.specs.Check.{PlacedAnswer, check_answer, checked_slice}
 use Rattle.survey.specs.Find.{FindAnswer, find_answer, found_slice}
@@ -23,9 +21,9 @@ pub record Router : Type 0 where
   -- the board asked for
   pub clear : List ℕ → Board → Outcome ℕ (List ℕ)
   -- source, destination, payload
-  pub take_in : List ℕ → ℕ → ℕ → List ℕ → Outcome Taken (List ℕ)
+  pub take_in : List ℕ → ℕ → ℕ → List ℕ → Outcome TakeAnswer (List ℕ)
   -- slot, code
-  pub make_move : List ℕ → ℕ → ℕ → Outcome Moved (List ℕ)
+  pub make_move : List ℕ → ℕ → ℕ → Outcome MoveAnswer (List ℕ)
   -- slot
   pub read_payload : List ℕ → ℕ → Outcome Reading (List ℕ)
   pub full_check : List ℕ → Outcome PlacedAnswer (List ℕ)

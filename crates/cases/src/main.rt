@@ -2,449 +2,431 @@
 // order 2's profiles, and order 3's right of way.
 #![tactic(auto)]
 
-use std::io;
-use survey::checking::PlacedAnswer;
-use survey::{checking, copying, finding};
+use std::{fmt, io};
 
-fn say(rt: &impl Print, text: &[u8]) -> io::Result<()> {
-    rt.write_all(text)
-}
+// Each byte as a blank and its decimal number.
+#[derive(Clone, Copy)]
+struct Decimals<'a>(&'a [u8]);
 
-fn number(rt: &impl Print, n: u32) -> io::Result<()> {
-    rt.print(n)
-}
-
-fn byte(rt: &impl Print, b: u8) -> io::Result<()> {
-    say(rt, b" ")?;
-    number(rt, b as u32)
-}
-
-fn bytes(rt: &impl Print, s: &[u8]) -> io::Result<()> {
-    let mut i = 0;
-    while i < s.len() {
-        byte(rt, s[i])?;
-        i += 1;
+impl fmt::Display for Decimals<'_> {
+    fn fmt<W: fmt::Write>(&self, f: &mut fmt::Formatter<W>) -> fmt::Result {
+        for byte in self.0 {
+            write!(f, " {byte}")?;
+        }
+        Ok(())
     }
-    Ok(())
 }
 
-fn left(rt: &impl Print, n: u32) -> io::Result<()> {
-    say(rt, b" left ")?;
-    number(rt, n)?;
-    say(rt, b"\n")
+// N bytes that a case lends, and where each answer is written.
+#[derive(Drop)]
+struct Trial<'a, P, const N: usize> {
+    rt: &'a P,
+    bytes: [u8; N],
 }
 
-fn clear(
-    rt: &impl Print,
-    s: &mut [u8],
-    width: u32,
-    height: u32,
-    depth: u32,
-    profile: u32,
-) -> io::Result<()> {
-    say(rt, b"clear ")?;
-    number(rt, router::clear(s, width, height, depth, profile))?;
-    say(rt, b"\n")
-}
-
-fn take_in(rt: &impl Print, s: &mut [u8], source: u8, destination: u8) -> io::Result<()> {
-    let t = router::take_in(s, source, destination, [1, 2, 3, 4, 5, 6, 7, 8]);
-    say(rt, b"take in ")?;
-    number(rt, t.number)?;
-    say(rt, b" slot ")?;
-    number(rt, t.slot)?;
-    say(rt, b" serial ")?;
-    number(rt, t.serial)?;
-    left(rt, t.left)
-}
-
-fn make_move(rt: &impl Print, s: &mut [u8], slot: u32, code: u32) -> io::Result<()> {
-    let m = router::make_move(s, slot, code);
-    let packet = m.packet;
-    say(rt, b"move ")?;
-    number(rt, m.number)?;
-    say(rt, b" slot ")?;
-    number(rt, m.slot)?;
-    say(rt, b" record")?;
-    bytes(rt, &packet)?;
-    left(rt, m.left)
-}
-
-fn read_payload(rt: &impl Print, s: &[u8], slot: u32) -> io::Result<()> {
-    let mut answered: u32 = 0;
-    let part = router::read_payload(s, slot, &mut answered);
-    say(rt, b"payload ")?;
-    number(rt, answered)?;
-    bytes(rt, part)?;
-    say(rt, b"\n")
-}
-
-fn answer(rt: &impl Print, label: &[u8], n: u32, place: u32) -> io::Result<()> {
-    say(rt, label)?;
-    number(rt, n)?;
-    say(rt, b" at ")?;
-    number(rt, place)?;
-    say(rt, b"\n")
-}
-
-fn full_check(rt: &impl Print, s: &[u8]) -> io::Result<()> {
-    let a = checking::answer_of(survey::full_check(s));
-    if a.number == 0 {
-        return say(rt, b"check passes\n");
+impl<P: Print, const N: usize> Trial<'_, P, N> {
+    fn clear(&mut self, width: u32, height: u32, depth: u32, profile: u32) -> io::Result<()> {
+        match router::clear(&mut self.bytes, width, height, depth, profile) {
+            Ok(()) => println!(self.rt; "clear 0"),
+            Err(refusal) => println!(self.rt; "clear {}", refusal.number()),
+        }
     }
-    answer(rt, b"check ", a.number, a.place)
-}
 
-fn find(rt: &impl Print, s: &[u8]) -> io::Result<()> {
-    let a = finding::answer_of(survey::find(s));
-    if a.number != 0 {
-        return answer(rt, b"find ", a.number, a.slot);
+    fn take_in(&mut self, source: u8, destination: u8) -> io::Result<()> {
+        let payload = [1, 2, 3, 4, 5, 6, 7, 8];
+        match router::take_in(&mut self.bytes, source, destination, payload) {
+            Ok(t) => println!(self.rt;
+                "take in 0 slot {} serial {} left {}",
+                t.slot, t.serial, t.left
+            ),
+            Err(refusal) => println!(self.rt;
+                "take in {} slot 0 serial 0 left 0",
+                refusal.number()
+            ),
+        }
     }
-    say(rt, b"find 0 slot ")?;
-    number(rt, a.slot)?;
-    say(rt, b" code ")?;
-    number(rt, a.code)?;
-    say(rt, b"\n")
-}
 
-fn copied(rt: &impl Print, a: PlacedAnswer) -> io::Result<()> {
-    if a.number == 0 {
-        return say(rt, b"copy done\n");
+    fn make_move(&mut self, slot: u32, code: u32) -> io::Result<()> {
+        match router::make_move(&mut self.bytes, slot, code) {
+            Ok(m) => println!(self.rt;
+                "move 0 slot {} record{} left {}",
+                m.slot,
+                Decimals(&m.packet),
+                m.left
+            ),
+            Err(refusal) => {
+                println!(self.rt;
+                    "move {} slot 0 record{} left 0",
+                    refusal.number(),
+                    Decimals(&[0; 16])
+                )
+            }
+        }
     }
-    answer(rt, b"copy ", a.number, a.place)
-}
 
-fn copy_outward(rt: &impl Print, s: &[u8], out: &mut [u8]) -> io::Result<()> {
-    let c = survey::copy_outward(s, out);
-    copied(rt, copying::answer_of(c))?;
-    show(rt, out)
-}
+    // One move after the other, each a slot and a code.
+    fn make_moves(&mut self, moves: &[(u32, u32)]) -> io::Result<()> {
+        for &(slot, code) in moves {
+            self.make_move(slot, code)?;
+        }
+        Ok(())
+    }
 
-fn judge(rt: &impl Print, s: &[u8]) -> io::Result<()> {
-    let mut out = [9u8; 64];
-    full_check(rt, s)?;
-    find(rt, s)?;
-    copy_outward(rt, s, &mut out)
+    fn read_payload(&self, slot: u32) -> io::Result<()> {
+        match router::read_payload(&self.bytes, slot) {
+            Ok(payload) => println!(self.rt; "payload 0{}", Decimals(payload)),
+            Err(refusal) => println!(self.rt; "payload {}", refusal.number()),
+        }
+    }
+
+    fn full_check(&self) -> io::Result<()> {
+        match survey::full_check(&self.bytes) {
+            Ok(()) => println!(self.rt; "check passes"),
+            Err(refusal) => println!(self.rt; "check {} at {}", refusal.number(), refusal.place()),
+        }
+    }
+
+    fn find(&self) -> io::Result<()> {
+        match survey::find(&self.bytes) {
+            Ok(m) => println!(self.rt; "find 0 slot {} code {}", m.slot, m.code),
+            Err(refusal) => println!(self.rt; "find {} at {}", refusal.number(), refusal.place()),
+        }
+    }
+
+    fn copy_outward(&self, out: &mut [u8]) -> io::Result<()> {
+        match survey::copy_outward(&self.bytes, out) {
+            Ok(()) => println!(self.rt; "copy done")?,
+            Err(refusal) => println!(self.rt; "copy {} at {}", refusal.number(), refusal.place())?,
+        }
+        show(self.rt, out)
+    }
+
+    fn judge(&self) -> io::Result<()> {
+        self.full_check()?;
+        self.find()?;
+        self.copy_outward(&mut [9; 64])
+    }
+
+    fn show(&self) -> io::Result<()> {
+        show(self.rt, &self.bytes)
+    }
 }
 
 fn show(rt: &impl Print, s: &[u8]) -> io::Result<()> {
-    say(rt, b"bytes")?;
-    bytes(rt, s)?;
-    say(rt, b"\n")
+    println!(rt; "bytes{}", Decimals(s))
 }
 
 // Waiting at (0,0) to (0,0): enter leads to B, then 7; no hops.
 fn at_home(rt: &impl Print) -> io::Result<()> {
-    say(rt, b"at its destination from the start\n")?;
-    let mut t = [0u8; 64];
-    clear(rt, &mut t, 1, 1, 1, 0)?;
-    take_in(rt, &mut t, 0, 0)?;
-    make_move(rt, &mut t, 0, 1)?;
-    make_move(rt, &mut t, 2, 7)?;
-    show(rt, &t)
+    println!(rt; "at its destination from the start")?;
+    let mut t = Trial { rt, bytes: [0; 64] };
+    t.clear(1, 1, 1, 0)?;
+    t.take_in(0, 0)?;
+    t.make_moves(&[(0, 1), (2, 7)])?;
+    t.show()
 }
 
 // Depth 1, A at (0,0) to (1,0), A slot at (1,0) held: code 2 answers 6.
 fn queue_full(rt: &impl Print) -> io::Result<()> {
-    say(rt, b"the target queue is full\n")?;
-    let mut t = [0u8; 112];
-    clear(rt, &mut t, 2, 1, 1, 0)?;
-    take_in(rt, &mut t, 0, 1)?;
-    make_move(rt, &mut t, 0, 1)?;
-    make_move(rt, &mut t, 1, 2)?;
-    take_in(rt, &mut t, 0, 1)?;
-    make_move(rt, &mut t, 0, 1)?;
-    make_move(rt, &mut t, 1, 2)
+    println!(rt; "the target queue is full")?;
+    let mut t = Trial {
+        rt,
+        bytes: [0; 112],
+    };
+    t.clear(2, 1, 1, 0)?;
+    t.take_in(0, 1)?;
+    t.make_moves(&[(0, 1), (1, 2)])?;
+    t.take_in(0, 1)?;
+    t.make_moves(&[(0, 1), (1, 2)])
 }
 
 // The slot that a packet has just left is taken by the next one.
 fn slot_reused(rt: &impl Print) -> io::Result<()> {
-    say(rt, b"a slot just left\n")?;
-    let mut t = [0u8; 112];
-    clear(rt, &mut t, 2, 1, 1, 0)?;
-    take_in(rt, &mut t, 0, 1)?;
-    make_move(rt, &mut t, 0, 1)?;
-    take_in(rt, &mut t, 0, 1)?;
-    make_move(rt, &mut t, 0, 1)?;
-    make_move(rt, &mut t, 1, 2)?;
-    make_move(rt, &mut t, 0, 1)?;
-    make_move(rt, &mut t, 4, 7)?;
-    read_payload(rt, &t, 1)?;
-    show(rt, &t)
+    println!(rt; "a slot just left")?;
+    let mut t = Trial {
+        rt,
+        bytes: [0; 112],
+    };
+    t.clear(2, 1, 1, 0)?;
+    t.take_in(0, 1)?;
+    t.make_move(0, 1)?;
+    t.take_in(0, 1)?;
+    t.make_moves(&[(0, 1), (1, 2), (0, 1), (4, 7)])?;
+    t.read_payload(1)?;
+    t.show()
 }
 
 // Depth 3: the room left in A at (0,0), then in A at (1,0) with a spoiled slot in it, and after a delivery from there.
 fn room_left(rt: &impl Print) -> io::Result<()> {
-    say(rt, b"room left\n")?;
-    let mut t = [0u8; 240];
-    clear(rt, &mut t, 2, 1, 3, 0)?;
-    take_in(rt, &mut t, 0, 1)?;
-    make_move(rt, &mut t, 0, 1)?;
-    take_in(rt, &mut t, 0, 1)?;
-    make_move(rt, &mut t, 0, 1)?;
-    make_move(rt, &mut t, 1, 2)?;
-    t[159] = 1;
-    make_move(rt, &mut t, 2, 2)?;
-    make_move(rt, &mut t, 8, 7)
+    println!(rt; "room left")?;
+    let mut t = Trial {
+        rt,
+        bytes: [0; 240],
+    };
+    t.clear(2, 1, 3, 0)?;
+    t.take_in(0, 1)?;
+    t.make_move(0, 1)?;
+    t.take_in(0, 1)?;
+    t.make_moves(&[(0, 1), (1, 2)])?;
+    t.bytes[159] = 1;
+    t.make_moves(&[(2, 2), (8, 7)])
 }
 
 // Profile 1 on a 2 by 2 board: A at (1,0) to (0,1) has code 4 and not 3, A at (0,1) to (1,0) has code 2 and not 5; B has both falls.
 fn no_dynamic_hops(rt: &impl Print) -> io::Result<()> {
-    say(rt, b"profile 1\n")?;
-    let mut t = [0u8; 208];
-    clear(rt, &mut t, 2, 2, 1, 1)?;
-    show(rt, &t[192..])?;
-    take_in(rt, &mut t, 1, 16)?;
-    make_move(rt, &mut t, 3, 1)?;
-    make_move(rt, &mut t, 4, 3)?;
-    make_move(rt, &mut t, 4, 4)?;
-    make_move(rt, &mut t, 10, 6)?;
-    make_move(rt, &mut t, 11, 3)?;
-    make_move(rt, &mut t, 8, 7)?;
-    take_in(rt, &mut t, 16, 1)?;
-    make_move(rt, &mut t, 6, 1)?;
-    make_move(rt, &mut t, 7, 5)?;
-    make_move(rt, &mut t, 7, 2)?;
-    make_move(rt, &mut t, 10, 6)?;
-    make_move(rt, &mut t, 11, 5)?;
-    make_move(rt, &mut t, 5, 7)
+    println!(rt; "profile 1")?;
+    let mut t = Trial {
+        rt,
+        bytes: [0; 208],
+    };
+    t.clear(2, 2, 1, 1)?;
+    show(rt, &t.bytes[192..])?;
+    t.take_in(1, 16)?;
+    t.make_moves(&[(3, 1), (4, 3), (4, 4), (10, 6), (11, 3), (8, 7)])?;
+    t.take_in(16, 1)?;
+    t.make_moves(&[(6, 1), (7, 5), (7, 2), (10, 6), (11, 5), (5, 7)])
 }
 
 // Profile 2 on a 2 by 2 board: A at (0,0) to (1,1) has code 2 and not 4, and there code 7 and not 6; B at (1,1) to (0,0) has code 3 and not 5.
 fn one_hop(rt: &impl Print) -> io::Result<()> {
-    say(rt, b"profile 2\n")?;
-    let mut t = [0u8; 208];
-    clear(rt, &mut t, 2, 2, 1, 2)?;
-    show(rt, &t[192..])?;
-    take_in(rt, &mut t, 0, 17)?;
-    make_move(rt, &mut t, 0, 1)?;
-    make_move(rt, &mut t, 1, 4)?;
-    find(rt, &t)?;
-    make_move(rt, &mut t, 1, 2)?;
-    make_move(rt, &mut t, 4, 4)?;
-    make_move(rt, &mut t, 10, 6)?;
-    make_move(rt, &mut t, 10, 7)?;
-    take_in(rt, &mut t, 17, 0)?;
-    make_move(rt, &mut t, 9, 1)?;
-    make_move(rt, &mut t, 11, 5)?;
-    make_move(rt, &mut t, 11, 3)?;
-    make_move(rt, &mut t, 8, 5)?;
-    make_move(rt, &mut t, 2, 7)?;
-    show(rt, &t[192..])
+    println!(rt; "profile 2")?;
+    let mut t = Trial {
+        rt,
+        bytes: [0; 208],
+    };
+    t.clear(2, 2, 1, 2)?;
+    show(rt, &t.bytes[192..])?;
+    t.take_in(0, 17)?;
+    t.make_moves(&[(0, 1), (1, 4)])?;
+    t.find()?;
+    t.make_moves(&[(1, 2), (4, 4), (10, 6), (10, 7)])?;
+    t.take_in(17, 0)?;
+    t.make_moves(&[(9, 1), (11, 5), (11, 3), (8, 5), (2, 7)])?;
+    show(rt, &t.bytes[192..])
 }
 
 // A 2 by 2 board: A at (1,0) to (0,1) and B at (1,0) to (0,0) both have code 3. The one in A gives way, and find names its code 4; once the one in B
 // has gone, it may go.
 fn right_of_way(rt: &impl Print) -> io::Result<()> {
-    say(rt, b"right of way\n")?;
-    let mut t = [0u8; 208];
-    clear(rt, &mut t, 2, 2, 1, 0)?;
-    take_in(rt, &mut t, 1, 16)?;
-    make_move(rt, &mut t, 3, 1)?;
-    find(rt, &t)?;
-    take_in(rt, &mut t, 1, 0)?;
-    make_move(rt, &mut t, 3, 1)?;
-    make_move(rt, &mut t, 4, 3)?;
-    find(rt, &t)?;
-    make_move(rt, &mut t, 5, 3)?;
-    make_move(rt, &mut t, 4, 3)
+    println!(rt; "right of way")?;
+    let mut t = Trial {
+        rt,
+        bytes: [0; 208],
+    };
+    t.clear(2, 2, 1, 0)?;
+    t.take_in(1, 16)?;
+    t.make_move(3, 1)?;
+    t.find()?;
+    t.take_in(1, 0)?;
+    t.make_moves(&[(3, 1), (4, 3)])?;
+    t.find()?;
+    t.make_moves(&[(5, 3), (4, 3)])
 }
 
 // The same two with B at (0,0) held, so that the one in B has no room, then A at (0,0) too: 12 comes before 6. With the one in B spoiled the answer
 // is 6, and 0 once A at (0,0) is empty.
 fn way_without_room(rt: &impl Print) -> io::Result<()> {
-    say(rt, b"right of way without room\n")?;
-    let mut t = [0u8; 208];
-    clear(rt, &mut t, 2, 2, 1, 0)?;
-    take_in(rt, &mut t, 1, 16)?;
-    make_move(rt, &mut t, 3, 1)?;
-    take_in(rt, &mut t, 1, 0)?;
-    make_move(rt, &mut t, 3, 1)?;
-    take_in(rt, &mut t, 0, 0)?;
-    make_move(rt, &mut t, 0, 1)?;
-    make_move(rt, &mut t, 5, 3)?;
-    make_move(rt, &mut t, 4, 3)?;
-    take_in(rt, &mut t, 0, 17)?;
-    make_move(rt, &mut t, 0, 1)?;
-    make_move(rt, &mut t, 4, 3)?;
-    t[80] = 2;
-    make_move(rt, &mut t, 4, 3)?;
-    make_move(rt, &mut t, 1, 4)?;
-    make_move(rt, &mut t, 4, 3)
+    println!(rt; "right of way without room")?;
+    let mut t = Trial {
+        rt,
+        bytes: [0; 208],
+    };
+    t.clear(2, 2, 1, 0)?;
+    t.take_in(1, 16)?;
+    t.make_move(3, 1)?;
+    t.take_in(1, 0)?;
+    t.make_move(3, 1)?;
+    t.take_in(0, 0)?;
+    t.make_moves(&[(0, 1), (5, 3), (4, 3)])?;
+    t.take_in(0, 17)?;
+    t.make_moves(&[(0, 1), (4, 3)])?;
+    t.bytes[80] = 2;
+    t.make_moves(&[(4, 3), (1, 4), (4, 3)])
 }
 
 // A 3 by 3 board: B at (1,1) to (1,0) has code 5 alone. A at (1,1) to (0,2) has code 3 and doesn't give way; A at (1,1) to (2,0) has code 5 and does,
 // but in profile 1 it has no code 5.
 fn way_of_one_code(rt: &impl Print) -> io::Result<()> {
-    say(rt, b"right of way by the same code\n")?;
-    let mut t = [0u8; 448];
-    clear(rt, &mut t, 3, 3, 1, 0)?;
-    take_in(rt, &mut t, 17, 1)?;
-    make_move(rt, &mut t, 12, 1)?;
-    take_in(rt, &mut t, 17, 32)?;
-    make_move(rt, &mut t, 12, 1)?;
-    make_move(rt, &mut t, 13, 3)?;
-    take_in(rt, &mut t, 17, 2)?;
-    make_move(rt, &mut t, 12, 1)?;
-    make_move(rt, &mut t, 13, 5)?;
-    t[435] = 1;
-    make_move(rt, &mut t, 13, 5)?;
-    t[435] = 0;
-    make_move(rt, &mut t, 14, 5)?;
-    make_move(rt, &mut t, 13, 5)
+    println!(rt; "right of way by the same code")?;
+    let mut t = Trial {
+        rt,
+        bytes: [0; 448],
+    };
+    t.clear(3, 3, 1, 0)?;
+    t.take_in(17, 1)?;
+    t.make_move(12, 1)?;
+    t.take_in(17, 32)?;
+    t.make_moves(&[(12, 1), (13, 3)])?;
+    t.take_in(17, 2)?;
+    t.make_moves(&[(12, 1), (13, 5)])?;
+    t.bytes[435] = 1;
+    t.make_move(13, 5)?;
+    t.bytes[435] = 0;
+    t.make_moves(&[(14, 5), (13, 5)])
 }
 
 // A slice too short for a trailer, and a trailer whose profile is 3.
 fn bad_trailer(rt: &impl Print) -> io::Result<()> {
-    say(rt, b"refusal 1\n")?;
-    let mut short = [0u8; 15];
-    take_in(rt, &mut short, 0, 0)?;
-    make_move(rt, &mut short, 0, 1)?;
-    read_payload(rt, &short, 0)?;
-    let mut t = [0u8; 64];
-    clear(rt, &mut t, 1, 1, 1, 0)?;
-    t[51] = 3;
-    take_in(rt, &mut t, 0, 0)?;
-    make_move(rt, &mut t, 0, 1)?;
-    read_payload(rt, &t, 0)?;
-    judge(rt, &t)?;
-    show(rt, &t)
-}
-
-fn put(s: &mut [u8], at: usize, value: u8) {
-    if at < s.len() {
-        s[at] = value;
-    }
+    println!(rt; "refusal 1")?;
+    let mut short = Trial { rt, bytes: [0; 15] };
+    short.take_in(0, 0)?;
+    short.make_move(0, 1)?;
+    short.read_payload(0)?;
+    let mut t = Trial { rt, bytes: [0; 64] };
+    t.clear(1, 1, 1, 0)?;
+    t.bytes[51] = 3;
+    t.take_in(0, 0)?;
+    t.make_move(0, 1)?;
+    t.read_payload(0)?;
+    t.judge()?;
+    t.show()
 }
 
 // One byte of a good trailer changed: a payload is asked for, in a table of one node and depth 1.
 fn with_byte(rt: &impl Print, at: usize, value: u8) -> io::Result<()> {
-    let mut t = [0u8; 64];
-    router::clear(&mut t, 1, 1, 1, 0);
-    put(&mut t, at, value);
-    read_payload(rt, &t, 0)
+    let mut t = Trial { rt, bytes: [0; 64] };
+    let _ = router::clear(&mut t.bytes, 1, 1, 1, 0);
+    if let Some(byte) = t.bytes.get_mut(at) {
+        *byte = value;
+    }
+    t.read_payload(0)
 }
 
 // Each field of the trailer out of range, the distance longer than the slice or another, delivered above taken; and no bytes at all.
 fn every_field(rt: &impl Print) -> io::Result<()> {
-    say(rt, b"refusal 1, field by field\n")?;
-    with_byte(rt, 48, 0)?;
-    with_byte(rt, 48, 17)?;
-    with_byte(rt, 49, 0)?;
-    with_byte(rt, 49, 17)?;
-    with_byte(rt, 50, 0)?;
-    with_byte(rt, 50, 8)?;
-    with_byte(rt, 51, 3)?;
-    with_byte(rt, 56, 1)?;
-    with_byte(rt, 60, 65)?;
-    with_byte(rt, 60, 63)?;
-    with_byte(rt, 63, 1)?;
-    let none = [0u8; 1];
-    read_payload(rt, &none[..0], 0)
+    println!(rt; "refusal 1, field by field")?;
+    let changes = [
+        (48, 0),
+        (48, 17),
+        (49, 0),
+        (49, 17),
+        (50, 0),
+        (50, 8),
+        (51, 3),
+        (56, 1),
+        (60, 65),
+        (60, 63),
+        (63, 1),
+    ];
+    for (at, value) in changes {
+        with_byte(rt, at, value)?;
+    }
+    Trial { rt, bytes: [0; 0] }.read_payload(0)
 }
 
 fn out_of_range(rt: &impl Print) -> io::Result<()> {
-    say(rt, b"refusal 2\n")?;
-    let mut t = [0u8; 112];
-    clear(rt, &mut t, 2, 1, 1, 0)?;
-    take_in(rt, &mut t, 2, 0)?;
-    take_in(rt, &mut t, 0, 16)?;
-    take_in(rt, &mut t, 0, 1)?;
-    make_move(rt, &mut t, 6, 1)?;
-    make_move(rt, &mut t, 4294967295, 1)?;
-    make_move(rt, &mut t, 0, 0)?;
-    make_move(rt, &mut t, 0, 8)?;
-    make_move(rt, &mut t, 0, 4294967295)?;
-    read_payload(rt, &t, 6)
+    println!(rt; "refusal 2")?;
+    let mut t = Trial {
+        rt,
+        bytes: [0; 112],
+    };
+    t.clear(2, 1, 1, 0)?;
+    t.take_in(2, 0)?;
+    t.take_in(0, 16)?;
+    t.take_in(0, 1)?;
+    t.make_moves(&[(6, 1), (u32::MAX, 1), (0, 0), (0, 8), (0, u32::MAX)])?;
+    t.read_payload(6)
 }
 
 fn empty_or_spoiled(rt: &impl Print) -> io::Result<()> {
-    say(rt, b"refusals 3 and 4\n")?;
-    let mut t = [0u8; 112];
-    clear(rt, &mut t, 2, 1, 1, 0)?;
-    make_move(rt, &mut t, 0, 1)?;
-    read_payload(rt, &t, 0)?;
-    t[15] = 1;
-    make_move(rt, &mut t, 0, 1)?;
-    read_payload(rt, &t, 0)?;
-    take_in(rt, &mut t, 0, 1)?;
-    show(rt, &t)
+    println!(rt; "refusals 3 and 4")?;
+    let mut t = Trial {
+        rt,
+        bytes: [0; 112],
+    };
+    t.clear(2, 1, 1, 0)?;
+    t.make_move(0, 1)?;
+    t.read_payload(0)?;
+    t.bytes[15] = 1;
+    t.make_move(0, 1)?;
+    t.read_payload(0)?;
+    t.take_in(0, 1)?;
+    t.show()
 }
 
 // A spoiled slot in the target queue is not empty.
 fn not_offered_or_no_room(rt: &impl Print) -> io::Result<()> {
-    say(rt, b"refusals 5 and 6\n")?;
-    let mut t = [0u8; 112];
-    clear(rt, &mut t, 2, 1, 1, 0)?;
-    take_in(rt, &mut t, 0, 1)?;
-    take_in(rt, &mut t, 0, 1)?;
-    make_move(rt, &mut t, 0, 2)?;
-    t[31] = 1;
-    make_move(rt, &mut t, 0, 1)?;
-    t[31] = 0;
-    make_move(rt, &mut t, 0, 1)
+    println!(rt; "refusals 5 and 6")?;
+    let mut t = Trial {
+        rt,
+        bytes: [0; 112],
+    };
+    t.clear(2, 1, 1, 0)?;
+    t.take_in(0, 1)?;
+    t.take_in(0, 1)?;
+    t.make_move(0, 2)?;
+    t.bytes[31] = 1;
+    t.make_move(0, 1)?;
+    t.bytes[31] = 0;
+    t.make_move(0, 1)
 }
 
 fn all_taken(rt: &impl Print) -> io::Result<()> {
-    say(rt, b"refusal 7\n")?;
-    let mut t = [0u8; 112];
-    clear(rt, &mut t, 2, 1, 1, 0)?;
-    t[100] = 255;
-    t[101] = 255;
-    t[102] = 255;
-    t[103] = 255;
-    take_in(rt, &mut t, 0, 1)?;
-    t[100] = 254;
-    take_in(rt, &mut t, 0, 1)?;
-    show(rt, &t)
+    println!(rt; "refusal 7")?;
+    let mut t = Trial {
+        rt,
+        bytes: [0; 112],
+    };
+    t.clear(2, 1, 1, 0)?;
+    t.bytes[100..104].fill(255);
+    t.take_in(0, 1)?;
+    t.bytes[100] = 254;
+    t.take_in(0, 1)?;
+    t.show()
 }
 
 fn boards_refused(rt: &impl Print) -> io::Result<()> {
-    say(rt, b"refusals 8 and 9\n")?;
-    let mut t = [7u8; 111];
-    clear(rt, &mut t, 0, 1, 1, 0)?;
-    clear(rt, &mut t, 17, 1, 1, 0)?;
-    clear(rt, &mut t, 1, 4294967295, 1, 0)?;
-    clear(rt, &mut t, 1, 1, 8, 0)?;
-    clear(rt, &mut t, 1, 1, 1, 3)?;
-    clear(rt, &mut t, 1, 1, 1, 4294967295)?;
-    clear(rt, &mut t, 2, 1, 1, 3)?;
-    clear(rt, &mut t, 2, 1, 1, 0)?;
-    clear(rt, &mut t, 1, 1, 2, 0)?;
-    show(rt, &t)
+    println!(rt; "refusals 8 and 9")?;
+    let mut t = Trial {
+        rt,
+        bytes: [7; 111],
+    };
+    let boards = [
+        (0, 1, 1, 0),
+        (17, 1, 1, 0),
+        (1, u32::MAX, 1, 0),
+        (1, 1, 8, 0),
+        (1, 1, 1, 3),
+        (1, 1, 1, u32::MAX),
+        (2, 1, 1, 3),
+        (2, 1, 1, 0),
+        (1, 1, 2, 0),
+    ];
+    for (width, height, depth, profile) in boards {
+        t.clear(width, height, depth, profile)?;
+    }
+    t.show()
 }
 
 // An empty table; a lone waiting packet; the copy of it, and buffers one byte short and long.
 fn judged(rt: &impl Print) -> io::Result<()> {
-    say(rt, b"a table that passes\n")?;
-    let mut t = [0u8; 64];
-    let mut short = [9u8; 63];
-    let mut long = [9u8; 65];
-    clear(rt, &mut t, 1, 1, 1, 0)?;
-    judge(rt, &t)?;
-    take_in(rt, &mut t, 0, 0)?;
-    judge(rt, &t)?;
-    copy_outward(rt, &t, &mut short)?;
-    copy_outward(rt, &t, &mut long)
+    println!(rt; "a table that passes")?;
+    let mut t = Trial { rt, bytes: [0; 64] };
+    t.clear(1, 1, 1, 0)?;
+    t.judge()?;
+    t.take_in(0, 0)?;
+    t.judge()?;
+    t.copy_outward(&mut [9; 63])?;
+    t.copy_outward(&mut [9; 65])
 }
 
 // A trailer that is not good; an empty slot with one payload byte 1; a wrong count; two slots with one serial.
 fn faulty(rt: &impl Print) -> io::Result<()> {
-    say(rt, b"tables that do not pass\n")?;
-    let mut t = [0u8; 64];
-    judge(rt, &t)?;
-    clear(rt, &mut t, 1, 1, 1, 0)?;
-    t[15] = 1;
-    judge(rt, &t)?;
-    t[15] = 0;
-    t[52] = 1;
-    judge(rt, &t)?;
-    clear(rt, &mut t, 1, 1, 1, 0)?;
-    take_in(rt, &mut t, 0, 0)?;
-    make_move(rt, &mut t, 0, 1)?;
-    take_in(rt, &mut t, 0, 0)?;
-    t[4] = 0;
-    judge(rt, &t)
+    println!(rt; "tables that do not pass")?;
+    let mut t = Trial { rt, bytes: [0; 64] };
+    t.judge()?;
+    t.clear(1, 1, 1, 0)?;
+    t.bytes[15] = 1;
+    t.judge()?;
+    t.bytes[15] = 0;
+    t.bytes[52] = 1;
+    t.judge()?;
+    t.clear(1, 1, 1, 0)?;
+    t.take_in(0, 0)?;
+    t.make_move(0, 1)?;
+    t.take_in(0, 0)?;
+    t.bytes[4] = 0;
+    t.judge()
 }
 
 fn main(rt: HostRuntime) -> io::Result<()> {

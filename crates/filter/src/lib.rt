@@ -9,42 +9,23 @@ fn weight_of(i: usize) -> u8
     requires { i < 8 }
     ensures { result ≡ weight_of i }
 {
-    match i {
-        0 => 1,
-        1 => 2,
-        2 => 4,
-        3 => 8,
-        4 => 16,
-        5 => 32,
-        6 => 64,
-        _ => 128,
-    }
+    1 << i
 }
 
+#[tactic(auto, unfolding(crate::specs::Flags::flag_at))]
 pub fn flag(flags: &[u8; 512], b: usize) -> bool
     requires { b < 4096 }
     ensures { result ≡ flag_at flags.now b }
 {
-    let x = flags[b / 8];
-    x / weight_of(b % 8) % 2 == 1
-}
-
-// The byte with bit `i`, which is down, raised.
-fn with_bit(x: u8, i: usize) -> u8
-    requires i_bound { i < 8 }
-    requires i_value { bit_of x i ≡ false }
-    ensures { result ≡ x + weight_of i }
-{
-    x + weight_of(i)
+    flags[b / 8] & weight_of(b % 8) != 0
 }
 
 // Raises a flag that is not up.
+#[tactic(auto, unfolding(crate::specs::Flags::flag_at, crate::specs::Flags::raised))]
 pub fn raise(flags: &mut [u8; 512], b: usize)
     requires b_bound { b < 4096 }
     requires b_value { flag_at flags.old b ≡ false }
     ensures { flags.new ≡ raised flags.old b }
 {
-    let i = b / 8;
-    let x = flags[i];
-    flags[i] = with_bit(x, b % 8);
+    flags[b / 8] |= weight_of(b % 8);
 }

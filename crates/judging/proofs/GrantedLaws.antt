@@ -1,12 +1,12 @@
 -- When a move is granted: what acceptance says, and the other way.
 -- Assumes nothing.
+use Rattle.std.specs.Prelude.{Some}
 use Prim.Native.Nat.{ℕ}
 use mathlib.Core.Path.{◌≡◌, ap, ◌∙◌}
 use mathlib.Core.Bool.{true, false, not}
 use mathlib.Core.List.{List}
 use borrow.Author.Tests.{not-false}
 use Rattle.network.specs.declared.Kind.{Kind}
-use Rattle.network.specs.declared.Lowest.TheVariants.{At}
 use Rattle.network.specs.declared.Place.{Place}
 use Rattle.network.specs.declared.Lead.TheVariants.{Hop, Turn}
 use Rattle.network.specs.Net.{at}
@@ -26,10 +26,10 @@ use Rattle.judging.proofs.NamedLaws.{Named, none_named, named_none}
 
 -- the lowest empty slot of the target queue
 module _ (b : Board) (t : List ℕ) (here : Place) where
-  pub hop_room : (n : ℕ) → blocked b t here (Hop n) ≡ false → room_at b t (at n here.kind) ≡ At (number_at (room_at b t (at n here.kind)))
+  pub hop_room : (n : ℕ) → blocked b t here (Hop n) ≡ false → room_at b t (at n here.kind) ≡ Some (number_at (room_at b t (at n here.kind)))
   hop_room n e = at_some _ (not-false _ e)
 
-  pub turn_room : (k : Kind) → blocked b t here (Turn k) ≡ false → room_at b t (at here.node k) ≡ At (number_at (room_at b t (at here.node k)))
+  pub turn_room : (k : Kind) → blocked b t here (Turn k) ≡ false → room_at b t (at here.node k) ≡ Some (number_at (room_at b t (at here.node k)))
   turn_room k e = at_some _ (not-false _ e)
 
 pub record Granted (h : Head) (t : List ℕ) (k code : ℕ) : Type 0 where

@@ -1,12 +1,12 @@
 -- What a verdict says is left: how many slots of the queue are empty once the lowest empty one is used.
 -- Assumes nothing.
+use Rattle.std.specs.Prelude.{Some}
 use Prim.Native.Nat.{ℕ, ◌<◌}
 use mathlib.Core.Path.{◌≡◌}
 use mathlib.Core.Logic.{◌≢◌}
 use mathlib.Core.Bool.{true, false}
 use mathlib.Core.List.{List}
 use native.Mathlib.Omega.{arith}
-use Rattle.network.specs.declared.Lowest.TheVariants.{At}
 use Rattle.network.specs.declared.Place.{Place}
 use Rattle.slots.specs.Slots.{slot_at}
 use Rattle.board.specs.declared.Board.{Board}
@@ -17,7 +17,7 @@ use Rattle.table.proofs.QueueLaws.{room_lowest, room_within, room_there, empties
 use Rattle.judging.specs.Verdicts.{into_queue}
 
 -- counted in any table where that slot is held and the queue's others are as they were
-pub verdict_left : (b : Board) (g : GoodBoard b) (p : Place) (on : (net_of b).valid p.node ≡ true) (t u : List ℕ) (k hops : ℕ) → room_at b t p ≡ At k
+pub verdict_left : (b : Board) (g : GoodBoard b) (p : Place) (on : (net_of b).valid p.node ≡ true) (t u : List ℕ) (k hops : ℕ) → room_at b t p ≡ Some k
     → empty_at u k ≡ false → ((i : ℕ) → i < (layout_of b).size → (layout_of b).place_of i ≡ p → i ≢ k → slot_at u i ≡ slot_at t i)
     → (into_queue b t p hops).left ≡ empties_at b u p
 verdict_left b g p on t u k hops e held rest =

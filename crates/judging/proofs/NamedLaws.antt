@@ -43,10 +43,6 @@ module _ (h : Head) (t : List ℕ) (k : ℕ) where
   unfolding slot_due
   due_named e = (none_named [] e).0
 
-  pub named_due : Named h t k → slot_due h t k ≡ 0
-  unfolding slot_due
-  named_due n = named_none [] n
-
 module _ {h : Head} {t : List ℕ} {k : ℕ} (n : Named h t k) (g : GoodBoard h.board) where
   pub named_good : GoodItem (net_of h.board) h.taken h.delivered (item_in h.board t k)
   named_good = good_here h t k n.good g n.inside

@@ -1,5 +1,6 @@
 -- Where an accepted move's packet goes: into a slot of the table that is empty, and so another than its own, with at most one hop more, which fits.
 -- Assumes nothing.
+use Rattle.std.specs.Prelude.{Option, Some, None}
 use Prim.Native.Nat.{ℕ, ◌+◌, ◌<◌, ◌≤◌}
 use mathlib.Core.Path.{◌≡◌, refl, sym, ap, ◌∙◌}
 use mathlib.Core.Logic.{◌≢◌}
@@ -8,8 +9,6 @@ use mathlib.Core.List.{List}
 use native.Mathlib.Omega.{arith}
 use borrow.Author.Tests.{not-false}
 use lib.ListN.{get_or}
-use Rattle.network.specs.declared.Lowest.{Lowest}
-use Rattle.network.specs.declared.Lowest.TheVariants.{At, Nowhere}
 use Rattle.network.specs.declared.Place.{Place}
 use Rattle.network.specs.declared.Lead.{Lead}
 use Rattle.network.specs.declared.Lead.TheVariants.{Hop, Turn, Out, NotOffered}
@@ -24,7 +23,7 @@ use Rattle.trailer.specs.declared.Head.{Head}
 use Rattle.table.specs.Queues.{empty_at, room_at, empties_at}
 use Rattle.table.proofs.PacketLaws.{good_hops}
 use Rattle.table.proofs.QueueLaws.{room_lowest, room_within}
-use Rattle.judging.specs.declared.verdict.Verdict.{Verdict}
+use Rattle.judging.specs.Verdicts.{Verdict}
 use Rattle.judging.specs.Moves.{lead_of, barred, blocked}
 use Rattle.judging.specs.Verdicts.{into, ahead, move_verdict, Targets}
 use Rattle.judging.proofs.NamedLaws.{targets}
@@ -33,10 +32,10 @@ use Rattle.judging.proofs.VerdictLaws.{granted, is_ahead}
 
 -- the slot lies in the table and is empty
 module _ (b : Board) (t : List ℕ) (g : GoodBoard b) (here : Place) where
-  into_room : (target : Place) → (net_of b).valid target.node ≡ true → (empty more : ℕ) (r : Lowest) → room_at b t target ≡ r → is_at r ≡ true
+  into_room : (target : Place) → (net_of b).valid target.node ≡ true → (empty more : ℕ) (r : Option ℕ) → room_at b t target ≡ r → is_at r ≡ true
       → ((into r empty more).slot < (layout_of b).size) × (empty_at t (into r empty more).slot ≡ true)
-  into_room target on empty more (At j) e i = (room_within b t target j e g on, (room_lowest b t target j e).has)
-  into_room target on empty more Nowhere e i = clash cc
+  into_room target on empty more (Some j) e i = (room_within b t target j e g on, (room_lowest b t target j e).has)
+  into_room target on empty more None e i = clash cc
 
   ahead_room : (lead : Lead) → Targets (net_of b) here lead → barred lead ≡ false → blocked b t here lead ≡ false → (ahead b t here lead).leaves ≡ false
       → ((ahead b t here lead).slot < (layout_of b).size) × (empty_at t (ahead b t here lead).slot ≡ true)
@@ -47,9 +46,9 @@ module _ (b : Board) (t : List ℕ) (g : GoodBoard b) (here : Place) where
   ahead_room NotOffered v o f l = clash cc
 
 -- at most one hop more
-into_hops : (r : Lowest) (empty more : ℕ) → more ≤ 1 → (into r empty more).hops ≤ 1
-into_hops (At k) empty more l = l
-into_hops Nowhere empty more l = omega arith
+into_hops : (r : Option ℕ) (empty more : ℕ) → more ≤ 1 → (into r empty more).hops ≤ 1
+into_hops (Some k) empty more l = l
+into_hops None empty more l = omega arith
 
 ahead_hops : (b : Board) (t : List ℕ) (here : Place) (lead : Lead) → (ahead b t here lead).hops ≤ 1
 unfolding ahead

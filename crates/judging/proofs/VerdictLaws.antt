@@ -1,5 +1,7 @@
 -- The verdict on a move: its number is the one that is due, and where that is 0 it is what the rule's answer comes to.
 -- Assumes nothing.
+use Rattle.std.specs.Prelude.{Option, Some, None, Result, Err, IsErrAnd}
+use Rattle.std.proofs.lemmas.Result.{err_from_is_err_and}
 use Prim.Native.Nat.{ℕ}
 use mathlib.Core.Path.{◌≡◌, refl, sym, ap, ◌∙◌}
 use mathlib.Core.Logic.{◌≢◌}
@@ -7,38 +9,58 @@ use mathlib.Core.Bool.{true, false, cond, not}
 use mathlib.Core.List.{List}
 use native.Mathlib.Omega.{arith}
 use native.Mathlib.Decide.{ℕ_discrete}
-use Rattle.network.specs.declared.Lowest.{Lowest}
-use Rattle.network.specs.declared.Lowest.TheVariants.{At, Nowhere}
 use Rattle.network.specs.declared.Place.{Place}
 use Rattle.network.specs.declared.Lead.{Lead}
 use Rattle.network.specs.declared.Lead.TheVariants.{Hop, Turn, Out, NotOffered}
 use Rattle.network.specs.Net.{at}
 use Rattle.network.specs.Search.{is_at}
-use Rattle.network.proofs.Tests.{cond_false}
+use Rattle.network.proofs.Tests.{clash, cond_false}
 use Rattle.board.specs.declared.Board.{Board}
 use Rattle.board.specs.Board.{net_of}
 use Rattle.board.specs.Layout.{layout_of}
 use Rattle.trailer.specs.declared.Head.{Head}
-use Rattle.table.specs.Refusals.{first_due, no_room, must_give_way}
+use Rattle.table.specs.declared.refusals.Refusal.{Refusal}
+use Rattle.table.specs.declared.refusals.Refusal.TheVariants.{Trailer, OutOfRange, Empty, Spoiled, NotOffered, NoRoom, AllTaken, Sizes, Buffer, Fault, NothingHeld, GivesWay}
+use Rattle.table.specs.Refusals.{first_due, no_room, must_give_way, number_of}
 use Rattle.table.specs.Queues.{room_at, empties_at}
 use Rattle.table.proofs.RefusalLaws.{due_first, accepted_by, refused_by_lem}
 use Rattle.way.specs.Way.{gives_way}
 use Rattle.way.proofs.WayLaws.{stopped}
-use Rattle.judging.specs.declared.verdict.Verdict.{Verdict}
+use Rattle.judging.specs.Verdicts.{Verdict}
 use Rattle.judging.specs.Named.{slot_rows, slot_due}
 use Rattle.judging.specs.Moves.{lead_of, lead_rows, move_due}
 use Rattle.judging.specs.Verdicts.{refused_by, into, ahead, move_verdict}
 use Rattle.judging.proofs.NamedLaws.{Named}
 use Rattle.judging.proofs.GrantedLaws.{Granted, onward, past_slot, way_due, due_granted}
 
-module _ (empty hops : ℕ) where
-  into-number : (r : Lowest) → (into r empty hops).number ≡ cond (not (is_at r)) no_room 0
-  into-number (At k) = refl
-  into-number Nowhere = refl
+-- the refusal that a `?` passes on, as a call answers it
+pub passed_on : {A B : Type 0} (answer : Result A Refusal → B) (r : Result A Refusal) (x : Refusal) → IsErrAnd r (λ y. y ≡ x) → answer r ≡ answer (Err x)
+passed_on answer r x h = let e = err_from_is_err_and r h in ap answer (e.1 ∙ ap (λ (y : Refusal). Err y) e.2)
 
-  into_refused : (r : Lowest) → (into r empty hops).number ≢ 0 → into r empty hops ≡ refused_by (into r empty hops).number
-  into_refused (At k) u = absurd (u refl)
-  into_refused Nowhere u = refl
+-- no refusal has the number of an accepted call
+pub number_not_zero : (e : Refusal) → number_of e ≢ 0
+unfolding number_of
+number_not_zero Trailer z = clash cc
+number_not_zero OutOfRange z = clash cc
+number_not_zero Empty z = clash cc
+number_not_zero Spoiled z = clash cc
+number_not_zero NotOffered z = clash cc
+number_not_zero NoRoom z = clash cc
+number_not_zero AllTaken z = clash cc
+number_not_zero Sizes z = clash cc
+number_not_zero Buffer z = clash cc
+number_not_zero (Fault place) z = clash cc
+number_not_zero NothingHeld z = clash cc
+number_not_zero GivesWay z = clash cc
+
+module _ (empty hops : ℕ) where
+  into-number : (r : Option ℕ) → (into r empty hops).number ≡ cond (not (is_at r)) no_room 0
+  into-number (Some k) = refl
+  into-number None = refl
+
+  into_refused : (r : Option ℕ) → (into r empty hops).number ≢ 0 → into r empty hops ≡ refused_by (into r empty hops).number
+  into_refused (Some k) u = absurd (u refl)
+  into_refused None u = refl
 
 -- what the rule's answer comes to, where the packet gives way to none
 module _ (h : Head) (t : List ℕ) (here : Place) (code : ℕ) where

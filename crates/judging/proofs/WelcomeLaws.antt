@@ -1,15 +1,14 @@
 -- When a packet is taken in, into which slot, and the verdict on it.
 -- Assumes nothing.
+use Rattle.std.specs.Prelude.{Option, Some}
 use Prim.Native.Nat.{ℕ, ◌<◌}
 use mathlib.Core.Path.{◌≡◌, refl, sym, ap, ◌∙◌}
 use mathlib.Core.Logic.{◌≢◌}
 use mathlib.Core.Bool.{true, not}
 use mathlib.Core.List.{List}
 use native.Mathlib.Decide.{ℕ_discrete}
-use borrow.Author.Tests.{eqb-false, eq-eqb, ne_eqb, not-false}
+use borrow.Author.Tests.{eqb-false, eq-eqb, not-false}
 use Rattle.network.specs.declared.Kind.TheVariants.{Waiting}
-use Rattle.network.specs.declared.Lowest.{Lowest}
-use Rattle.network.specs.declared.Lowest.TheVariants.{At, Nowhere}
 use Rattle.network.specs.Net.{at}
 use Rattle.network.specs.Search.{is_at, number_at}
 use Rattle.network.proofs.Tests.{cond_true, cond_false}
@@ -20,9 +19,9 @@ use Rattle.trailer.specs.declared.Head.{Head}
 use Rattle.table.specs.Refusals.{first_due}
 use Rattle.table.proofs.QueueLaws.{room_within}
 use Rattle.table.proofs.RefusalLaws.{passed, accepted_by, refused_by_lem}
-use Rattle.judging.specs.declared.verdict.Verdict.{Verdict}
+use Rattle.judging.specs.Verdicts.{Verdict}
 use Rattle.judging.specs.Takings.{waiting_room, waiting_empties, take_rows}
-use Rattle.judging.specs.Verdicts.{refused_by, into, into_queue, take_verdict}
+use Rattle.judging.specs.Verdicts.{refused_by, into, take_verdict}
 
 -- the packet is taken in
 pub record Welcome (h : Head) (t : List ℕ) (source destination : ℕ) : Type 0 where
@@ -52,7 +51,7 @@ module _ (h : Head) (t : List ℕ) (source destination : ℕ) where
     abbrev pub berth : ℕ
     berth = number_at (waiting_room h t source)
 
-    pub berth_room : waiting_room h t source ≡ At berth
+    pub berth_room : waiting_room h t source ≡ Some berth
     berth_room = at_some _ w.room
 
     pub berth_within : GoodBoard h.board → berth < (layout_of h.board).size
@@ -64,22 +63,12 @@ module _ (h : Head) (t : List ℕ) (source destination : ℕ) where
   unfolding take_verdict
   take_refuses e u = refused_by_lem _ _ (λ z. u (sym e ∙ z)) ∙ ap refused_by e
 
-  -- past the nodes and the serials, the room decides
-  pub take-into : (net_of h.board).valid source ≡ true → (net_of h.board).valid destination ≡ true → h.taken ≢ 4294967295
-      → take_verdict h t source destination ≡ into_queue h.board t (at source Waiting) 0
-  unfolding take_verdict
-  take-into on to more = by (waiting_room h t source) refl
-    where
-      by : (r : Lowest) → waiting_room h t source ≡ r → take_verdict h t source destination ≡ into_queue h.board t (at source Waiting) 0
-      by (At k) e = rw (on, to, ne_eqb h.taken 4294967295 more, e)
-      by Nowhere e = rw (on, to, ne_eqb h.taken 4294967295 more, e)
-
   module _ (v : Verdict) (e : v ≡ take_verdict h t source destination) where
     -- where nothing is due, into the waiting slot
-    pub take_done : take_due ≡ 0 → v ≡ into (At (number_at (waiting_room h t source))) (waiting_empties h t source) 0
+    pub take_done : take_due ≡ 0 → v ≡ into (Some (number_at (waiting_room h t source))) (waiting_empties h t source) 0
     unfolding take_verdict
     take_done z =
-        e ∙ accepted_by _ _ z ∙ ap (λ (r : Lowest). into r (waiting_empties h t source) 0) (at_some (waiting_room h t source) (due_welcome z).room)
+        e ∙ accepted_by _ _ z ∙ ap (λ (r : Option ℕ). into r (waiting_empties h t source) 0) (at_some (waiting_room h t source) (due_welcome z).room)
 
     pub take-number : v.number ≡ take_due
     take-number = elim (ℕ_discrete take_due 0) [

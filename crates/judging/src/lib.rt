@@ -9,3 +9,4 @@ pub mod verdict;
 pub use moves::judge_move;
 pub use named::slot_due;
 pub use takings::judge_taking;
+pub use verdict::{Berth, Onward};

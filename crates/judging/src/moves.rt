@@ -1,61 +1,48 @@
 // The verdict on a move: a proposed code for the packet of a slot.
 ghost use Rattle.std.specs.Prelude.{◌≡◌};
 ghost use Rattle.board.specs.Board.{net_of};
-ghost use Rattle.board.specs.Layout.{Sized};
-ghost use Rattle.judging.specs.Verdicts.{ahead, move_verdict, Targets};
+ghost use Rattle.judging.specs.Verdicts.{verdict_of, ahead, move_verdict, Targets};
 
-use crate::verdict::Verdict;
-use board::Board;
+use crate::verdict::Onward;
 use network::{Lead, Place};
-use trailer::Head;
+use table::Refusal;
+use trailer::Table;
 
 // What the rule's answer comes to, in the table as it is.
-fn go_ahead(t: &[u8], b: Board, here: Place, lead: Lead) -> Verdict
-    requires sized { Sized b t.now }
-    requires targets { Targets (net_of b) here lead }
-    ensures { result ≡ ahead b t.now here lead }
+#[tactic(auto, using(table::proofs::QueueLaws::room_counted), unfolding(crate::specs::Verdicts::ahead, table::specs::Refusals::number_of))]
+fn go_ahead(t: &Table, here: Place, lead: Lead) -> Result<Onward, Refusal>
+    requires { Targets (net_of t.now.head.board) here lead }
+    ensures { verdict_of result ≡ ahead t.now.head.board t.now.bytes.now here lead }
 {
-    let node = here.node;
-    let kind = here.kind;
     match lead {
-        Lead::Hop(n) => {
-            let room = table::queues::room_at(t, b, Place { node: n, kind });
+        Lead::Hop(node) => {
+            let room = table::queues::room_at(t, Place { node, ..here });
             crate::verdict::go_into(room, 1)
         }
-        Lead::Turn(k) => {
-            let room = table::queues::room_at(t, b, Place { node, kind: k });
+        Lead::Turn(kind) => {
+            let room = table::queues::room_at(t, Place { kind, ..here });
             crate::verdict::go_into(room, 0)
         }
-        Lead::Out => Verdict {
-            number: 0,
-            leaves: true,
-            slot: 0,
-            hops: 0,
-            left: 0,
-        },
-        Lead::NotOffered => crate::verdict::refuse(table::refusals::NOT_OFFERED),
+        Lead::Out => Ok(Onward::Leaves),
+        Lead::NotOffered => Err(Refusal::NotOffered),
     }
 }
 
 // Would this move be accepted, and where does the packet go?
-pub fn judge_move(t: &[u8], h: Head, slot: u32, code: u32) -> Verdict
-    requires { Sized h.board t.now }
-    ensures { result ≡ move_verdict h t.now slot code }
+pub fn judge_move(t: &Table, slot: u32, code: u32) -> Result<Onward, Refusal>
+    ensures { verdict_of result ≡ move_verdict t.now.head t.now.bytes.now slot code }
 {
-    let b = h.board;
+    let b = t.head.board;
     if !board::is_code(b, code) {
-        return crate::verdict::refuse(table::refusals::OUT_OF_RANGE);
+        return Err(Refusal::OutOfRange);
     }
     let k = slot as usize;
-    let due = crate::named::slot_due(t, h, k);
-    if due != 0 {
-        return crate::verdict::refuse(due);
-    }
+    crate::named::slot_due(t, k)?;
     let here = board::layout::place_of(b, k);
-    let destination = slots::slot_byte(t, k, 2);
+    let destination = slots::slot_byte(t.bytes, k, 2);
     let lead = board::rule(b, here, destination, code);
-    if way::gives_way(t, h, here, code, lead) {
-        return crate::verdict::refuse(table::refusals::GIVES_WAY);
+    if way::gives_way(t, here, code, lead) {
+        return Err(Refusal::GivesWay);
     }
-    go_ahead(t, b, here, lead)
+    go_ahead(t, here, lead)
 }

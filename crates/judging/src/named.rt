@@ -1,24 +1,24 @@
 // The slot that a call names.
 ghost use Rattle.std.specs.Prelude.{◌≡◌};
-ghost use Rattle.board.specs.Layout.{Sized};
+ghost use Rattle.table.specs.Refusals.{told};
 ghost use Rattle.judging.specs.Named.{slot_due};
 
-use trailer::Head;
+use table::Refusal;
+use trailer::Table;
 
-// Refusals 2, 3 and 4 of a named slot, or 0.
-pub fn slot_due(t: &[u8], h: Head, slot: usize) -> u32
-    requires { Sized h.board t.now }
-    ensures { result ≡ slot_due h t.now slot }
+// Refusals 2, 3 and 4 of a named slot.
+#[tactic(auto, unfolding(crate::specs::Named::slot_due, table::specs::Refusals::number_of))]
+pub fn slot_due(t: &Table, slot: usize) -> Result<(), Refusal>
+    ensures { told result ≡ slot_due t.now.head t.now.bytes.now slot }
 {
-    let b = h.board;
-    if board::layout::slots_of(b) <= slot {
-        return table::refusals::OUT_OF_RANGE;
+    if board::layout::slots_of(t.head.board) <= slot {
+        return Err(Refusal::OutOfRange);
     }
-    if slots::slot_empty(t, slot) {
-        return table::refusals::EMPTY;
+    if slots::slot_empty(t.bytes, slot) {
+        return Err(Refusal::Empty);
     }
-    if !table::packets::good_at(t, h, slot) {
-        return table::refusals::SPOILED;
+    if !table::packets::good_at(t, slot) {
+        return Err(Refusal::Spoiled);
     }
-    0
+    Ok(())
 }

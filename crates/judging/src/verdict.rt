@@ -1,48 +1,43 @@
 // What a call that changes a table would do, judged before anything is written.
-ghost use Rattle.std.specs.Prelude.{◌≡◌, ltb};
+ghost use Rattle.std.specs.Prelude.{ℕ, ◌≡◌, ltb};
 ghost use Rattle.network.specs.Search.{is_at};
-ghost use Rattle.judging.specs.Verdicts.{refused_by, into};
+ghost use Rattle.judging.specs.Verdicts.{berthed, verdict_of, into};
 
-use network::Lowest;
+use table::Refusal;
 use table::queues::QueueRoom;
 
-// The number of the first refusal that is due, or 0 and what is done: the packet leaves, or goes to a slot with more hops, where so many slots of
-// the queue are left empty.
+// The slot that a packet goes into, and how many slots of its queue are left empty.
 #[derive(Clone, Copy)]
-pub struct Verdict {
-    pub number: u32,
-    pub leaves: bool,
+pub struct Berth {
     pub slot: usize,
-    pub hops: u8,
     pub left: u32,
 }
 
-pub fn refuse(number: u32) -> Verdict
-    ensures { result ≡ refused_by number }
-{
-    Verdict {
-        number,
-        leaves: false,
-        slot: 0,
-        hops: 0,
-        left: 0,
-    }
+// Where an accepted move's packet goes: out, or into a slot with so many hops more, where `left` slots of the queue are left empty.
+#[derive(Clone, Copy)]
+pub enum Onward {
+    Leaves,
+    Into { slot: usize, hops: u8, left: u32 },
 }
 
-// Into the room found, or refusal 6.
-pub fn go_into(room: QueueRoom, hops: u8) -> Verdict
+// The lowest slot of the room found, or refusal 6.
+#[tactic(auto, unfolding(table::specs::Refusals::number_of))]
+pub fn berth_in(room: QueueRoom) -> Result<Berth, Refusal>
     requires { is_at room.lowest ≡ ltb 0 room.empty }
-    ensures { result ≡ into room.lowest room.empty hops }
+    ensures { (hops : ℕ) → berthed hops result ≡ into room.lowest room.empty hops }
 {
-    let lowest = room.lowest;
-    let Lowest::At(slot) = lowest else {
-        return refuse(table::refusals::NO_ROOM);
-    };
-    Verdict {
-        number: 0,
-        leaves: false,
+    let slot = room.lowest.ok_or(Refusal::NoRoom)?;
+    Ok(Berth {
         slot,
-        hops,
         left: room.empty - 1,
-    }
+    })
+}
+
+// Into the room found, with so many hops more.
+pub fn go_into(room: QueueRoom, hops: u8) -> Result<Onward, Refusal>
+    requires { is_at room.lowest ≡ ltb 0 room.empty }
+    ensures { verdict_of result ≡ into room.lowest room.empty hops }
+{
+    let Berth { slot, left } = berth_in(room)?;
+    Ok(Onward::Into { slot, hops, left })
 }

@@ -15,7 +15,6 @@ use Rattle.board.specs.Layout.{layout_of}
 use Rattle.trailer.specs.declared.Head.{Head}
 use Rattle.table.specs.Held.{held_at, held_below}
 use Rattle.table.proofs.PacketLaws.{fields_same}
-use Rattle.text.specs.Put.{Fits}
 use Rattle.lines.specs.Line.{slot_line, head_line, last_line}
 use Rattle.lines.specs.Lines.{top_of, row_of, row_in, row_at, rows_in, lines_of, table_text, rows_text}
 use Rattle.lines.proofs.LineLaws.{rows_none, rows_one, rows_both, length_rows, whole_text}
@@ -70,13 +69,11 @@ module _ (b : Board) (t : List ℕ) where
         | no p ↦ let r : long k ≤ long n = below (omega arith) in omega (arith, rows_longer n)
       ]
 
-  -- where all rows have room, the next one has it past those before it
-  pub row_fits : {d : List ℕ} {at : ℕ} (n k : ℕ) → k < n → Fits d at (rows_text b (rows_in b t n))
-      → Fits d at (rows_text b (rows_in b t k) ++ rows_text b (row_at b t k))
-  row_fits {d} {at} n k l f =
-      let g = rows_grow n (k + 1) (omega arith) in
-      let all : Fits d at (rows_text b (rows_in b t (k + 1))) = record { room = omega (arith, f.room) } in
-      rw (rows_more k) at all
+  -- the next row and those before it are no longer than all
+  pub row_within : (n k : ℕ) → k < n → length (rows_text b (rows_in b t k)) + length (rows_text b (row_at b t k)) ≤ length (rows_text b (rows_in b t n))
+  row_within n k l =
+      let here : long (k + 1) ≡ long k + length (rows_text b (row_at b t k)) = rw add-one (rows_longer k) in
+      omega (arith, rows_grow n (k + 1) (omega arith))
 
 module _ (h : Head) (t : List ℕ) where
   abbrev size : ℕ

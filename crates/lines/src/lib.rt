@@ -1,66 +1,66 @@
-// The lines that list a table. Each function puts a text at a place and answers the place past it.
-#![tactic(auto)]
+// The lines that list a table.
+#![tactic(auto, using(text::proofs::PutLaws::writing), unfolding(crate::specs::Line::grid_text, crate::specs::Line::counts_text, crate::specs::Line::profile_text, crate::specs::Line::head_line, crate::specs::Line::node_text, crate::specs::Line::place_text, crate::specs::Line::packet_text, crate::specs::Line::slot_line, crate::specs::Line::last_line))]
 
 ghost use Rattle.std.specs.Prelude.{◌≡◌, ◌∷◌, [], ◌++◌, ◌-◌, ◌≤◌, ◌<◌};
 ghost use Rattle.board.specs.Board.{GoodBoard};
-ghost use Rattle.board.specs.Layout.{layout_of, Sized};
+ghost use Rattle.board.specs.Layout.{layout_of};
 ghost use Rattle.table.specs.Held.{held_below};
-ghost use Rattle.text.specs.Put.{Fits, Wrote};
+ghost use Rattle.text.specs.Put.{Takes, added};
 ghost use Rattle.lines.specs.Line.{grid_text, counts_text, profile_text, head_line, letter, node_text, place_text, packet_text, slot_line, last_line};
 ghost use Rattle.lines.specs.Lines.{top_of, row_of, row_at, rows_in, rows_text, table_text};
 
 use board::Board;
 use network::{Kind, Place};
 use table::packets::Fields;
-use trailer::Head;
+use text::Text;
+use trailer::{Head, Table};
 
 // Room for the longest text, 226,637 bytes: a slot's line has at most 59, the head line 67, the last line 10.
 pub const ROOM: usize = 3840 * 59 + 67 + 10;
 
-fn put_grid(buf: &mut [u8], at: usize, board: Board) -> usize
+fn put_grid(text: &mut Text, board: Board)
     requires good_board { GoodBoard board }
-    requires fits { Fits buf.old at (grid_text board) }
-    ensures { Wrote buf.old at (grid_text board) buf.new result }
+    requires takes { Takes text.old (grid_text board) }
+    ensures { text.new ≡ added text.old (grid_text board) }
 {
-    let a = text::put_word_decimal(buf, at, b"grid ", board.width as u32);
-    let b = text::put_word_decimal(buf, a, b" ", board.height as u32);
-    text::put_word_decimal(buf, b, b" depth ", board.depth as u32)
+    text.word_decimal(b"grid ", board.width as u32);
+    text.word_decimal(b" ", board.height as u32);
+    text.word_decimal(b" depth ", board.depth as u32);
 }
 
-fn put_counts(buf: &mut [u8], at: usize, h: Head) -> usize
-    requires { Fits buf.old at (counts_text h.taken h.delivered) }
-    ensures { Wrote buf.old at (counts_text h.taken h.delivered) buf.new result }
+fn put_counts(text: &mut Text, h: Head)
+    requires { Takes text.old (counts_text h.taken h.delivered) }
+    ensures { text.new ≡ added text.old (counts_text h.taken h.delivered) }
 {
-    let a = text::put_word_decimal(buf, at, b" taken ", h.taken);
-    text::put_word_decimal(buf, a, b" delivered ", h.delivered)
+    text.word_decimal(b" taken ", h.taken);
+    text.word_decimal(b" delivered ", h.delivered);
 }
 
 // The profile of which a head line says nothing.
 const UNSAID: usize = 0;
 
-fn put_profile(buf: &mut [u8], at: usize, profile: usize) -> usize
+fn put_profile(text: &mut Text, profile: usize)
     requires profile_bound { profile ≤ 2 }
-    requires fits { Fits buf.old at (profile_text profile) }
-    ensures { Wrote buf.old at (profile_text profile) buf.new result }
+    requires takes { Takes text.old (profile_text profile) }
+    ensures { text.new ≡ added text.old (profile_text profile) }
 {
-    if profile == UNSAID {
-        return at;
+    if profile != UNSAID {
+        text.word_decimal(b" profile ", profile as u32);
     }
-    text::put_word_decimal(buf, at, b" profile ", profile as u32)
 }
 
-fn put_head(buf: &mut [u8], at: usize, h: Head) -> usize
+fn put_head(text: &mut Text, h: Head)
     requires good_board { GoodBoard h.board }
-    requires fits { Fits buf.old at (head_line (top_of h)) }
-    ensures { Wrote buf.old at (head_line (top_of h)) buf.new result }
+    requires takes { Takes text.old (head_line (top_of h)) }
+    ensures { text.new ≡ added text.old (head_line (top_of h)) }
 {
-    let board = h.board;
-    let a = put_grid(buf, at, board);
-    let b = put_counts(buf, a, h);
-    let c = put_profile(buf, b, board.profile);
-    text::put_byte(buf, c, b'\n')
+    put_grid(text, h.board);
+    put_counts(text, h);
+    put_profile(text, h.board.profile);
+    text.byte(b'\n');
 }
 
+// No `From` of the kind's own: its letter is a word of the listing alone.
 fn letter_of(kind: Kind) -> u8
     ensures { result ∷ [] ≡ letter kind }
 {
@@ -71,110 +71,96 @@ fn letter_of(kind: Kind) -> u8
     }
 }
 
-fn put_node(buf: &mut [u8], at: usize, board: Board, n: u8) -> usize
-    requires { Fits buf.old at (node_text board n) }
-    ensures { Wrote buf.old at (node_text board n) buf.new result }
+fn put_node(text: &mut Text, board: Board, n: u8)
+    requires { Takes text.old (node_text board n) }
+    ensures { text.new ≡ added text.old (node_text board n) }
 {
     let c = board::coordinates_of(board, n);
-    let a = text::put_decimal(buf, at, c.x as u32);
-    let b = text::put_byte(buf, a, b',');
-    text::put_decimal(buf, b, c.y as u32)
+    text.decimal(c.x as u32);
+    text.byte(b',');
+    text.decimal(c.y as u32);
 }
 
 // A word, and a node after it.
-fn put_word_node(buf: &mut [u8], at: usize, word: &[u8], board: Board, n: u8) -> usize
-    requires { Fits buf.old at (word.now ++ node_text board n) }
-    ensures { Wrote buf.old at (word.now ++ node_text board n) buf.new result }
+fn put_word_node(text: &mut Text, word: &[u8], board: Board, n: u8)
+    requires { Takes text.old (word.now ++ node_text board n) }
+    ensures { text.new ≡ added text.old (word.now ++ node_text board n) }
 {
-    let a = text::put_bytes(buf, at, word);
-    put_node(buf, a, board, n)
+    text.bytes(word);
+    put_node(text, board, n);
 }
 
-fn put_place(buf: &mut [u8], at: usize, board: Board, slot: u32, here: Place) -> usize
-    requires { Fits buf.old at (place_text board slot here) }
-    ensures { Wrote buf.old at (place_text board slot here) buf.new result }
+fn put_place(text: &mut Text, board: Board, slot: u32, here: Place)
+    requires { Takes text.old (place_text board slot here) }
+    ensures { text.new ≡ added text.old (place_text board slot here) }
 {
-    let kind = here.kind;
-    let a = text::put_decimal(buf, at, slot);
-    let b = text::put_byte(buf, a, b' ');
-    let c = text::put_byte(buf, b, letter_of(kind));
-    put_word_node(buf, c, b" ", board, here.node)
+    text.decimal(slot);
+    text.byte(b' ');
+    text.byte(letter_of(here.kind));
+    put_word_node(text, b" ", board, here.node);
 }
 
-fn put_packet(buf: &mut [u8], at: usize, board: Board, f: Fields) -> usize
-    requires { Fits buf.old at (packet_text board f.source f.destination f.hops f.serial) }
-    ensures { Wrote buf.old at (packet_text board f.source f.destination f.hops f.serial) buf.new result }
+fn put_packet(text: &mut Text, board: Board, f: Fields)
+    requires { Takes text.old (packet_text board f.source f.destination f.hops f.serial) }
+    ensures { text.new ≡ added text.old (packet_text board f.source f.destination f.hops f.serial) }
 {
-    let a = put_word_node(buf, at, b" from ", board, f.source);
-    let b = put_word_node(buf, a, b" to ", board, f.destination);
-    let c = text::put_word_decimal(buf, b, b" hops ", f.hops as u32);
-    text::put_word_decimal(buf, c, b" serial ", f.serial)
+    put_word_node(text, b" from ", board, f.source);
+    put_word_node(text, b" to ", board, f.destination);
+    text.word_decimal(b" hops ", f.hops as u32);
+    text.word_decimal(b" serial ", f.serial);
 }
 
-fn put_slot_line(
-    buf: &mut [u8],
-    at: usize,
-    board: Board,
-    slot: u32,
-    here: Place,
-    f: Fields,
-) -> usize
-    requires { Fits buf.old at (slot_line board (row_of slot here f)) }
-    ensures { Wrote buf.old at (slot_line board (row_of slot here f)) buf.new result }
+fn put_slot_line(text: &mut Text, board: Board, slot: u32, here: Place, f: Fields)
+    requires { Takes text.old (slot_line board (row_of slot here f)) }
+    ensures { text.new ≡ added text.old (slot_line board (row_of slot here f)) }
 {
-    let a = put_place(buf, at, board, slot, here);
-    let b = put_packet(buf, a, board, f);
-    text::put_byte(buf, b, b'\n')
+    put_place(text, board, slot, here);
+    put_packet(text, board, f);
+    text.byte(b'\n');
 }
 
 // The line of slot `k`, or nothing where it is empty.
-fn put_row(buf: &mut [u8], at: usize, t: &[u8], board: Board, k: usize) -> usize
-    requires sized { Sized board t.now }
-    requires k_bound { k < (layout_of board).size }
-    requires fits { Fits buf.old at (rows_text board (row_at board t.now k)) }
-    ensures { Wrote buf.old at (rows_text board (row_at board t.now k)) buf.new result }
+#[tactic(auto, using(text::proofs::PutLaws::writing, crate::proofs::RowLaws::row_empty, crate::proofs::RowLaws::row_held, board::proofs::BoardLaws::slots_most))]
+fn put_row(text: &mut Text, t: &Table, k: usize)
+    requires k_bound { k < (layout_of t.now.head.board).size }
+    requires takes { Takes text.old (rows_text t.now.head.board (row_at t.now.head.board t.now.bytes.now k)) }
+    ensures { text.new ≡ added text.old (rows_text t.now.head.board (row_at t.now.head.board t.now.bytes.now k)) }
 {
-    if slots::slot_empty(t, k) {
-        return at;
+    if slots::slot_empty(t.bytes, k) {
+        return;
     }
+    let board = t.head.board;
     let here = board::layout::place_of(board, k);
-    let f = table::packets::read_fields(t, k);
-    put_slot_line(buf, at, board, k as u32, here, f)
+    let f = table::packets::read_fields(t.bytes, k);
+    put_slot_line(text, board, k as u32, here, f);
 }
 
-fn put_rows(buf: &mut [u8], at: usize, t: &[u8], board: Board) -> usize
-    requires sized { Sized board t.now }
-    requires fits { Fits buf.old at (rows_text board (rows_in board t.now (layout_of board).size)) }
-    ensures { Wrote buf.old at (rows_text board (rows_in board t.now (layout_of board).size)) buf.new result }
+#[tactic(auto, using(text::proofs::PutLaws::writing, crate::proofs::RowLaws::no_rows, crate::proofs::RowLaws::rows_more, crate::proofs::RowLaws::row_within))]
+fn put_rows(text: &mut Text, t: &Table)
+    requires { Takes text.old (rows_text t.now.head.board (rows_in t.now.head.board t.now.bytes.now (layout_of t.now.head.board).size)) }
+    ensures { text.new ≡ added text.old (rows_text t.now.head.board (rows_in t.now.head.board t.now.bytes.now (layout_of t.now.head.board).size)) }
 {
-    let n = board::layout::slots_of(board);
-    let mut end = at;
-    let mut k = 0;
-    while k < n {
-        end = put_row(buf, end, t, board, k);
-        k += 1;
+    for k in 0..board::layout::slots_of(t.head.board) {
+        put_row(text, t, k);
     }
-    end
 }
 
-fn put_last(buf: &mut [u8], at: usize, held: u32) -> usize
-    requires { Fits buf.old at (last_line held) }
-    ensures { Wrote buf.old at (last_line held) buf.new result }
+fn put_last(text: &mut Text, held: u32)
+    requires { Takes text.old (last_line held) }
+    ensures { text.new ≡ added text.old (last_line held) }
 {
-    let a = text::put_word_decimal(buf, at, b"held ", held);
-    text::put_byte(buf, a, b'\n')
+    text.word_decimal(b"held ", held);
+    text.byte(b'\n');
 }
 
 // All lines of a table that holds as many packets as are taken in and not delivered.
-pub fn put_table(buf: &mut [u8], at: usize, t: &[u8], h: Head) -> usize
-    requires sized { Sized h.board t.now }
-    requires delivered_le_taken { h.delivered ≤ h.taken }
-    requires delivered_value { h.taken - h.delivered ≡ held_below t.now (layout_of h.board).size }
-    requires fits { Fits buf.old at (table_text h t.now) }
-    ensures { Wrote buf.old at (table_text h t.now) buf.new result }
+#[tactic(auto, using(text::proofs::PutLaws::writing, crate::proofs::RowLaws::counted_is))]
+pub fn put_table(text: &mut Text, t: &Table)
+    requires delivered_value { t.now.head.taken - t.now.head.delivered ≡ held_below t.now.bytes.now (layout_of t.now.head.board).size }
+    requires takes { Takes text.old (table_text t.now.head t.now.bytes.now) }
+    ensures { text.new ≡ added text.old (table_text t.now.head t.now.bytes.now) }
 {
-    let board = h.board;
-    let a = put_head(buf, at, h);
-    let b = put_rows(buf, a, t, board);
-    put_last(buf, b, h.taken - h.delivered)
+    put_head(text, t.head);
+    put_rows(text, t);
+    put_last(text, t.head.taken.saturating_sub(t.head.delivered));
 }

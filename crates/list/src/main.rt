@@ -7,7 +7,9 @@ fn main(rt: HostRuntime) -> io::Result<()> {
     let mut input = listing::input_room();
     let n = reading::read_full(&mut rt.stdin(), &mut input)?;
     let mut out = listing::output_room();
-    let listed = listing::list_table(&input[..n], &mut out);
-    let length = listed.length;
-    rt.write_all(&out[..length])
+    match listing::list_table(&input[..n], &mut out) {
+        Ok(length) => rt.write_all(&out[..length]),
+        // the room is long enough
+        Err(_) => Ok(()),
+    }
 }

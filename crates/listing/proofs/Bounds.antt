@@ -1,5 +1,6 @@
 -- How long a listing is: at most the room for a table's lines; and a verdict at most one line of 59.
 -- Assumes nothing.
+use Rattle.std.specs.Prelude.{Option, Some, None, Ok, Err}
 use Prim.Native.Nat.{ℕ, ◌+◌, ◌-◌, ◌^◌, ◌≤◌, ◌<◌}
 use mathlib.Core.Path.{◌≡◌, refl}
 use mathlib.Core.Bool.{Bool, true, false, cond}
@@ -8,16 +9,12 @@ use native.Mathlib.Omega.{arith}
 use lib.Dec.{ltb}
 use lib.ListN.{length, get_or, drop, length-append}
 use lib.Seq.{get_or-drop}
-use Rattle.network.specs.declared.Lowest.{Lowest}
-use Rattle.network.specs.declared.Lowest.TheVariants.{At, Nowhere}
 use Rattle.board.proofs.BoardLaws.{slots_most}
 use Rattle.trailer.specs.declared.Head.{Head}
-use Rattle.trailer.specs.declared.Headed.{Headed}
-use Rattle.trailer.specs.declared.Headed.TheVariants.{Good, Bad}
 use Rattle.trailer.specs.Trailer.{trailer_of, last16, GoodTrailer}
 use Rattle.trailer.proofs.TrailerLaws.{trailer_good}
-use Rattle.table.specs.Refusals.{trailer_not_good, wrong_length}
-use Rattle.survey.specs.declared.checking.Checked.TheVariants.{Passes, BadTrailer, FaultAt}
+use Rattle.table.specs.Refusals.{trailer_not_good, wrong_length, number_of}
+use Rattle.table.specs.declared.refusals.Refusal.TheVariants.{Trailer, Fault}
 use Rattle.survey.specs.Check.{fault_in, fault_or, unless_fault, read_by, on_passing, checked_slice}
 use Rattle.survey.proofs.CheckLaws.{held_good, fault-most}
 use Rattle.text.proofs.DecLaws.{length-dec}
@@ -49,20 +46,20 @@ module _ (s : List ℕ) where
   table h = drop (length s - h.size) s
 
   -- a fault's place is a slot, or S
-  named_short : (h : Head) → trailer_of s ≡ Good h → (place : ℕ) → fault_in h (table h) ≡ At place → length (fault_line place) ≤ line_room
+  named_short : (h : Head) → trailer_of s ≡ Some h → (place : ℕ) → fault_in h (table h) ≡ Some place → length (fault_line place) ≤ line_room
   named_short h e place f = fault_short place (omega (arith, fault-most h (table h) place f, slots_most h.board (trailer_good s e).ranges))
 
   pub verdict_short : length (verdict s) ≤ line_room
-  unfolding verdict checked_slice
+  unfolding verdict checked_slice number_of
   verdict_short = unless_short line_room s (verdict_line (checked_slice s)) (omega arith) (by (trailer_of s) refl)
     where
-      told : (h : Head) → trailer_of s ≡ Good h → (x : Lowest) → fault_in h (table h) ≡ x → length (verdict_line (fault_or FaultAt Passes x)) ≤ line_room
-      told h e (At place) f = named_short h e place f
-      told h e Nowhere f = omega arith
+      told : (h : Head) → trailer_of s ≡ Some h → (x : Option ℕ) → fault_in h (table h) ≡ x → length (verdict_line (fault_or (λ place. Err (Fault place)) (Ok tt) x)) ≤ line_room
+      told h e (Some place) f = named_short h e place f
+      told h e None f = omega arith
 
-      by : (x : Headed) → trailer_of s ≡ x → length (verdict_line (read_by s BadTrailer (unless_fault FaultAt (λ h t. Passes)) x)) ≤ line_room
-      by Bad e = refusal_short trailer_not_good (omega arith)
-      by (Good h) e = told h e (fault_in h (table h)) refl
+      by : (x : Option Head) → trailer_of s ≡ x → length (verdict_line (read_by s (Err Trailer) (unless_fault (λ place. Err (Fault place)) (λ h t. Ok tt)) x)) ≤ line_room
+      by None e = refusal_short trailer_not_good (omega arith)
+      by (Some h) e = told h e (fault_in h (table h)) refl
 
   module _ (byte : (i : ℕ) → get_or s i 0 < 256) where
     taken_few : (h : Head) → GoodTrailer s h → h.taken < 2 ^ 32
@@ -74,11 +71,11 @@ module _ (s : List ℕ) where
     unfolding listing
     listing_short = unless_short room s (on_passing s (refusal_line trailer_not_good) fault_line table_text) (omega arith) (by (trailer_of s) refl)
       where
-        told : (h : Head) → trailer_of s ≡ Good h → (x : Lowest) → fault_in h (table h) ≡ x
+        told : (h : Head) → trailer_of s ≡ Some h → (x : Option ℕ) → fault_in h (table h) ≡ x
             → length (fault_or fault_line (table_text h (table h)) x) ≤ room
-        told h e (At place) f = omega (arith, named_short h e place f)
-        told h e Nowhere f = let g = trailer_good s e in table_short h g.ranges (table h) (taken_few h g) (held_good h (table h) f) g.counts
+        told h e (Some place) f = omega (arith, named_short h e place f)
+        told h e None f = let g = trailer_good s e in table_short h g.ranges (table h) (taken_few h g) (held_good h (table h) f) g.counts
 
-        by : (x : Headed) → trailer_of s ≡ x → length (read_by s (refusal_line trailer_not_good) (unless_fault fault_line table_text) x) ≤ room
-        by Bad e = omega (arith, refusal_short trailer_not_good (omega arith))
-        by (Good h) e = told h e (fault_in h (table h)) refl
+        by : (x : Option Head) → trailer_of s ≡ x → length (read_by s (refusal_line trailer_not_good) (unless_fault fault_line table_text) x) ≤ room
+        by None e = omega (arith, refusal_short trailer_not_good (omega arith))
+        by (Some h) e = told h e (fault_in h (table h)) refl

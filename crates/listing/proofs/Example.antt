@@ -16,6 +16,7 @@ use Rattle.board.specs.Board.{board_ok, net_of}
 use Rattle.board.specs.Layout.{layout_of}
 use Rattle.board.proofs.BoardLaws.{net_laws}
 use Rattle.trailer.specs.Trailer.{head_ok, trailer_of}
+use Rattle.table.specs.Refusals.{number_of}
 use Rattle.table.specs.Packets.{good_at}
 use Rattle.survey.specs.Check.{first_spoiled, first_repeat, miscount, fault_in, checked_slice}
 use Rattle.text.specs.Dec.{dec, dec_from}
@@ -43,7 +44,7 @@ spoiled = refl
 
 -- what the examples compute with: to unfold one of these is to unfold all that its own line names
 unfoldable words : Unit {0}
-unfolding refusal_line fault_line dec dec_from
+unfolding refusal_line fault_line number_of dec dec_from
 words = tt
 
 unfoldable checks : Unit {0}

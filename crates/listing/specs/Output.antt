@@ -1,15 +1,14 @@
 -- What the listing program prints, for any input (document 01, "The listing program"), and the one line of the check.
 -- Assumes nothing.
-use Rattle.std.specs.Prelude.{ℕ, cond, List, ◌++◌, ltb, length, drop}
-use Rattle.table.specs.Refusals.{trailer_not_good, wrong_length, check_failed}
+use Rattle.std.specs.Prelude.{ℕ, cond, List, ◌++◌, ltb, length, drop, Result, Ok, Err, ⊤}
+use Rattle.table.specs.declared.refusals.Refusal.{Refusal}
+use Rattle.table.specs.declared.refusals.Refusal.TheVariants.{Buffer, Fault}
+use Rattle.table.specs.Refusals.{trailer_not_good, wrong_length, check_failed, number_of}
 use Rattle.table.specs.Calls.{Outcome, outcome}
-use Rattle.survey.specs.declared.checking.Checked.{Checked}
-use Rattle.survey.specs.declared.checking.Checked.TheVariants.{Passes, BadTrailer, FaultAt}
 use Rattle.survey.specs.Check.{on_passing, checked_slice}
 use Rattle.text.specs.Dec.{dec}
 use Rattle.text.specs.Text.{text}
 use Rattle.lines.specs.Lines.{table_text, room}
-use Rattle.listing.specs.declared.answering.Listed.{Listed}
 
 -- the longest input that is read
 abbrev pub most : ℕ
@@ -23,11 +22,15 @@ refusal_line n = text "refused " ++ dec n ++ text "\n"
 unfoldable pub fault_line : ℕ → List ℕ
 fault_line place = (text "refused " ++ dec check_failed) ++ (text " at " ++ dec place) ++ text "\n"
 
+-- the line that tells a refusal
+abbrev pub refusal_words : Refusal → List ℕ
+refusal_words (Fault place) = fault_line place
+refusal_words refusal = refusal_line (number_of refusal)
+
 -- the check's answer as one line
-abbrev pub verdict_line : Checked → List ℕ
-verdict_line Passes = text "passes\n"
-verdict_line BadTrailer = refusal_line trailer_not_good
-verdict_line (FaultAt place) = fault_line place
+abbrev pub verdict_line : Result ⊤ Refusal → List ℕ
+verdict_line (Ok done) = text "passes\n"
+verdict_line (Err refusal) = refusal_words refusal
 
 -- a text, unless the input is too long
 abbrev pub unless_long : List ℕ → List ℕ → List ℕ
@@ -45,15 +48,21 @@ verdict s = unless_long s (verdict_line (checked_slice s))
 abbrev pub line_room : ℕ
 line_room = 59
 
-abbrev pub listed : ℕ → ℕ → Listed
-listed number n = record { number = number; length = n }
+-- the number of each answer, and how much of the buffer is text
+pub record ListAnswer : Type 0 where
+  pub number : ℕ
+  pub length : ℕ
+
+abbrev pub list_answer : Result ℕ Refusal → ListAnswer
+list_answer (Ok n) = record { number = 0; length = n }
+list_answer (Err refusal) = record { number = number_of refusal; length = 0 }
 
 -- a text at the start of a buffer that has room for it, and the bytes past it as they were
-abbrev pub into : ℕ → List ℕ → List ℕ → Outcome Listed (List ℕ)
-into need t out = cond (ltb (length out) need) (outcome (listed wrong_length 0) out) (outcome (listed 0 (length t)) (t ++ drop (length t) out))
+abbrev pub into : ℕ → List ℕ → List ℕ → Outcome (Result ℕ Refusal) (List ℕ)
+into need t out = cond (ltb (length out) need) (outcome (Err Buffer) out) (outcome (Ok (length t)) (t ++ drop (length t) out))
 
-unfoldable pub listed_into : List ℕ → List ℕ → Outcome Listed (List ℕ)
+unfoldable pub listed_into : List ℕ → List ℕ → Outcome (Result ℕ Refusal) (List ℕ)
 listed_into s out = into room (listing s) out
 
-unfoldable pub verdict_into : List ℕ → List ℕ → Outcome Listed (List ℕ)
+unfoldable pub verdict_into : List ℕ → List ℕ → Outcome (Result ℕ Refusal) (List ℕ)
 verdict_into s out = into line_room (verdict s) out

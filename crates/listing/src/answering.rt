@@ -1,16 +1,17 @@
 // The two calls: the whole listing, and the one line of the check.
-ghost use Rattle.std.specs.Prelude.{◌≡◌, ◌≤◌, length, take};
-ghost use Rattle.board.specs.Layout.{Sized};
-ghost use Rattle.table.specs.Refusals.{wrong_length};
-ghost use Rattle.table.specs.Calls.{outcome};
-ghost use Rattle.survey.specs.Check.{unless_fault};
-ghost use Rattle.text.specs.Put.{Fits, Wrote};
-ghost use Rattle.lines.specs.Lines.{table_text};
-ghost use Rattle.listing.specs.Output.{refusal_line, fault_line, verdict_line, listing, verdict, listed, listed_into, verdict_into};
+#![tactic(auto, using(text::proofs::PutLaws::writing))]
 
-use network::Lowest;
-use survey::checking::Checked;
-use trailer::{Head, Headed};
+ghost use Rattle.std.specs.Prelude.{◌≡◌, ◌≤◌, ◌-◌, length, take, IfOk, IfErr};
+ghost use Rattle.board.specs.Layout.{layout_of};
+ghost use Rattle.table.specs.Held.{held_below};
+ghost use Rattle.table.specs.Calls.{outcome};
+ghost use Rattle.text.specs.Put.{Takes, added};
+ghost use Rattle.lines.specs.Lines.{table_text};
+ghost use Rattle.listing.specs.Output.{refusal_words, verdict_line, listing, verdict, listed_into, verdict_into};
+
+use table::Refusal;
+use text::Text;
+use trailer::Table;
 
 // The longest input that is read.
 pub const MOST: usize = 65536;
@@ -18,110 +19,93 @@ pub const MOST: usize = 65536;
 // Room for the check's line.
 pub const LINE_ROOM: usize = 59;
 
-// How much of the buffer is text, or a refusal's number.
-#[derive(Clone, Copy)]
-pub struct Listed {
-    pub number: u32,
-    pub length: usize,
-}
-
-fn put_refusal(buf: &mut [u8], at: usize, number: u32) -> usize
-    requires { Fits buf.old at (refusal_line number) }
-    ensures { Wrote buf.old at (refusal_line number) buf.new result }
+#[tactic(auto, using(text::proofs::PutLaws::writing), unfolding(crate::specs::Output::refusal_line, crate::specs::Output::fault_line, table::specs::Refusals::number_of))]
+fn put_refusal(text: &mut Text, refusal: Refusal)
+    requires { Takes text.old (refusal_words refusal) }
+    ensures { text.new ≡ added text.old (refusal_words refusal) }
 {
-    let a = text::put_word_decimal(buf, at, b"refused ", number);
-    text::put_byte(buf, a, b'\n')
-}
-
-fn put_fault(buf: &mut [u8], at: usize, place: u32) -> usize
-    requires { Fits buf.old at (fault_line place) }
-    ensures { Wrote buf.old at (fault_line place) buf.new result }
-{
-    let a = text::put_word_decimal(buf, at, b"refused ", table::refusals::FAULT);
-    let b = text::put_word_decimal(buf, a, b" at ", place);
-    text::put_byte(buf, b, b'\n')
-}
-
-fn put_verdict(buf: &mut [u8], at: usize, c: Checked) -> usize
-    requires { Fits buf.old at (verdict_line c) }
-    ensures { Wrote buf.old at (verdict_line c) buf.new result }
-{
-    match c {
-        Checked::Passes => text::put_bytes(buf, at, b"passes\n"),
-        Checked::BadTrailer => put_refusal(buf, at, table::refusals::TRAILER),
-        Checked::FaultAt(place) => put_fault(buf, at, place),
+    text.word_decimal(b"refused ", refusal.number());
+    if let Refusal::Fault(place) = refusal {
+        text.word_decimal(b" at ", place);
     }
+    text.byte(b'\n');
 }
 
-// The fault that the check names, or the lines of a table that passes.
-fn put_checked(buf: &mut [u8], at: usize, t: &[u8], h: Head) -> usize
-    requires sized { Sized h.board t.now }
-    requires delivered_le_taken { h.delivered ≤ h.taken }
-    requires fits { Fits buf.old at (unless_fault fault_line table_text h t.now) }
-    ensures { Wrote buf.old at (unless_fault fault_line table_text h t.now) buf.new result }
-{
-    let Lowest::At(place) = survey::checking::first_fault(t, h) else {
-        return lines::put_table(buf, at, t, h);
-    };
-    put_fault(buf, at, place as u32)
-}
-
-fn put_listing(buf: &mut [u8], at: usize, s: &[u8]) -> usize
-    requires { Fits buf.old at (listing s.now) }
-    ensures { Wrote buf.old at (listing s.now) buf.new result }
+// The table of a slice that is not too long, if it passes.
+fn passing(s: &[u8]) -> Result<Table<'_>, Refusal>
+    ensures refused { IfErr result (λ refusal. listing s.now ≡ refusal_words refusal) }
+    ensures listed { IfOk result (λ t. listing s.now ≡ table_text t.head t.bytes.now) }
+    ensures counted { IfOk result (λ t. t.head.taken - t.head.delivered ≡ held_below t.bytes.now (layout_of t.head.board).size) }
 {
     if MOST < s.len() {
-        return put_refusal(buf, at, table::refusals::BUFFER);
+        return Err(Refusal::Buffer);
     }
-    let Headed::Good(h) = trailer::trailer(s) else {
-        return put_refusal(buf, at, table::refusals::TRAILER);
-    };
-    let size = h.size;
-    let start = s.len() - size;
-    put_checked(buf, at, &s[start..], h)
+    let t = trailer::table_in(s).ok_or(Refusal::Trailer)?;
+    match survey::checking::first_fault(&t) {
+        Some(place) => Err(Refusal::Fault(place as u32)),
+        None => Ok(t),
+    }
 }
 
-fn put_check(buf: &mut [u8], at: usize, s: &[u8]) -> usize
-    requires { Fits buf.old at (verdict s.now) }
-    ensures { Wrote buf.old at (verdict s.now) buf.new result }
+fn put_listing(text: &mut Text, s: &[u8])
+    requires { Takes text.old (listing s.now) }
+    ensures { text.new ≡ added text.old (listing s.now) }
+{
+    match passing(s) {
+        Ok(t) => lines::put_table(text, &t),
+        Err(refusal) => put_refusal(text, refusal),
+    }
+}
+
+#[tactic(auto, using(crate::proofs::OutputLaws::verdict_long, crate::proofs::OutputLaws::verdict_read))]
+fn check(s: &[u8]) -> Result<(), Refusal>
+    ensures { verdict_line result ≡ verdict s.now }
 {
     if MOST < s.len() {
-        return put_refusal(buf, at, table::refusals::BUFFER);
+        return Err(Refusal::Buffer);
     }
-    put_verdict(buf, at, survey::full_check(s))
+    survey::full_check(s)
 }
 
-fn refused() -> Listed
-    ensures { result ≡ listed wrong_length 0 }
+pub(crate) fn put_verdict(text: &mut Text, s: &[u8])
+    requires { Takes text.old (verdict s.now) }
+    ensures { text.new ≡ added text.old (verdict s.now) }
 {
-    Listed {
-        number: table::refusals::BUFFER,
-        length: 0,
+    match check(s) {
+        Ok(()) => text.bytes(b"passes\n"),
+        Err(refusal) => put_refusal(text, refusal),
     }
 }
 
-// Puts what the listing program prints of `s` at the start of `out`.
-pub fn list_table(s: &[u8], out: &mut [u8]) -> Listed
+// Puts what the listing program prints of `s` at the start of `out`, and answers its length.
+// Refusals: 9 `out` is shorter than the room.
+#[tactic(auto, using(text::proofs::PutLaws::writing, crate::proofs::OutputLaws::not_printed, crate::proofs::OutputLaws::printed), unfolding(crate::specs::Output::listed_into, text::specs::Put::added))]
+pub fn list_table(s: &[u8], out: &mut [u8]) -> Result<usize, Refusal>
     ensures out_after { outcome result out.new ≡ listed_into s.now out.old }
-    ensures length_in_bounds { result.length ≤ length out.new }
-    ensures length_value { result.length ≡ length (take result.length out.new) }
+    ensures length_in_bounds { IfOk result (λ n. n ≤ length out.new) }
+    ensures length_value { IfOk result (λ n. n ≡ length (take n out.new)) }
 {
     if out.len() < lines::ROOM {
-        return refused();
+        return Err(Refusal::Buffer);
     }
-    let length = put_listing(out, 0, s);
-    Listed { number: 0, length }
+    let mut text = Text::new(out);
+    put_listing(&mut text, s);
+    Ok(text.end())
 }
 
-// Puts one line at the start of `out`: `passes`, or what the listing program prints instead of a table.
-pub fn check_line(s: &[u8], out: &mut [u8]) -> Listed
+// Puts one line at the start of `out`, `passes`, or what the listing program prints instead of a table, and answers its length.
+// Refusals: 9 `out` is shorter than the room.
+// One function for both would take room and text, the text as a closure over a `Text`, and be no plainer.
+#[tactic(auto, using(text::proofs::PutLaws::writing, crate::proofs::OutputLaws::not_printed, crate::proofs::OutputLaws::printed, crate::proofs::Bounds::verdict_short), unfolding(crate::specs::Output::verdict_into, text::specs::Put::added))]
+pub fn check_line(s: &[u8], out: &mut [u8]) -> Result<usize, Refusal>
     ensures out_after { outcome result out.new ≡ verdict_into s.now out.old }
-    ensures length_in_bounds { result.length ≤ length out.new }
-    ensures length_value { result.length ≡ length (take result.length out.new) }
+    ensures length_in_bounds { IfOk result (λ n. n ≤ length out.new) }
+    ensures length_value { IfOk result (λ n. n ≡ length (take n out.new)) }
 {
     if out.len() < LINE_ROOM {
-        return refused();
+        return Err(Refusal::Buffer);
     }
-    let length = put_check(out, 0, s);
-    Listed { number: 0, length }
+    let mut text = Text::new(out);
+    put_verdict(&mut text, s);
+    Ok(text.end())
 }

@@ -11,7 +11,7 @@ pub mod sending;
 pub use answering::{check_line, list_table};
 pub use sending::send_outward;
 
-// Room for the longest input, and one byte more, which shows that an input is too long.
+// Room for the longest input, and one byte more, which shows that an input is too long. Programs have no heap, so how much of it is read stands beside it.
 pub fn input_room() -> [u8; answering::MOST + 1]
     ensures { most + 1 ≡ length result }
 {

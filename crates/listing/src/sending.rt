@@ -1,84 +1,65 @@
 // The call behind the program `outward`: the copy for outsiders, or why there is none.
-ghost use Rattle.std.specs.Prelude.{◌≡◌, ◌≤◌, ◌++◌, length, take, drop};
-ghost use Rattle.table.specs.Refusals.{wrong_length};
-ghost use Rattle.table.specs.Calls.{outcome};
-ghost use Rattle.listing.specs.Output.{most, line_room, verdict};
-ghost use Rattle.listing.specs.Outward.{copy_room, sent, sent_of, laid, sent_into};
+#![tactic(auto, using(text::proofs::PutLaws::writing))]
 
-use survey::copying::Copied;
-use trailer::Headed;
+ghost use Rattle.std.specs.Prelude.{◌≡◌, ◌≤◌, ◌++◌, List, ℕ, Ok, length, take, drop, IfOk, OnErr};
+ghost use Rattle.table.specs.Calls.{outcome};
+ghost use Rattle.listing.specs.declared.sending.Sent.TheVariants.{Copy, Words};
+ghost use Rattle.listing.specs.Output.{line_room, verdict};
+ghost use Rattle.listing.specs.Outward.{copy_room, words_alone, sent_of, laid, send_answer, sent_into};
+
+use crate::answering::{LINE_ROOM, MOST};
+use table::Refusal;
+use text::Text;
 
 // The longest table.
 pub const COPY_ROOM: usize = 61456;
 
-// How much of each buffer is to be sent, or a refusal's number.
+// How much of one of the two buffers is to be sent.
 #[derive(Clone, Copy)]
-pub struct Sent {
-    pub number: u32,
-    pub copy: usize,
-    pub words: usize,
+pub enum Sent {
+    Copy(usize),
+    Words(usize),
 }
 
-fn refused() -> Sent
-    ensures { result ≡ sent wrong_length 0 0 }
-{
-    Sent {
-        number: table::refusals::BUFFER,
-        copy: 0,
-        words: 0,
-    }
-}
-
+#[tactic(auto, using(text::proofs::PutLaws::writing, crate::proofs::Bounds::verdict_short), unfolding(text::specs::Put::added))]
 fn send_words(s: &[u8], line: &mut [u8]) -> Sent
     requires { line_room ≤ length line.old }
-    ensures value { result ≡ sent 0 0 (length (verdict s.now)) }
+    ensures value { result ≡ Words (length (verdict s.now)) }
     ensures line_after { line.new ≡ verdict s.now ++ drop (length (verdict s.now)) line.old }
 {
-    let listed = crate::answering::check_line(s, line);
-    Sent {
-        number: 0,
-        copy: 0,
-        words: listed.length,
-    }
+    let mut text = Text::new(line);
+    crate::answering::put_verdict(&mut text, s);
+    Sent::Words(text.end())
 }
 
-fn send_read(s: &[u8], out: &mut [u8], line: &mut [u8]) -> Sent
-    requires s_len_bound { length s.now ≤ most }
-    requires copy_room_in_bounds { copy_room ≤ length out.old }
-    requires line_room_in_bounds { line_room ≤ length line.old }
-    ensures { outcome result (out.new, line.new) ≡ laid (sent_of s.now) out.old line.old }
+// Puts the copy at the start of `out`, and answers its length.
+fn copy(s: &[u8], out: &mut [u8]) -> Result<usize, Refusal>
+    requires { copy_room ≤ length out.old }
+    ensures done { IfOk result (λ n. (line : List ℕ) → outcome (Ok (Copy n)) (out.new, line) ≡ laid (sent_of s.now) out.old line) }
+    ensures refused { OnErr result ((sent_of s.now ≡ words_alone (verdict s.now)) × (out.new ≡ out.old)) }
 {
-    let Headed::Good(h) = trailer::trailer(s) else {
-        return send_words(s, line);
-    };
-    let size = h.size;
-    let copied = survey::copy_outward(s, &mut out[..size]);
-    let Copied::Done = copied else {
-        return send_words(s, line);
-    };
-    Sent {
-        number: 0,
-        copy: size,
-        words: 0,
+    if MOST < s.len() {
+        return Err(Refusal::Buffer);
     }
+    let size = trailer::trailer(s).ok_or(Refusal::Trailer)?.size;
+    survey::copy_outward(s, &mut out[..size])?;
+    Ok(size)
 }
 
 // Puts the copy for outsiders of the table in `s` at the start of `out`, or leaves `out` and puts the words of its refusal at the start of `line`.
-pub fn send_outward(s: &[u8], out: &mut [u8], line: &mut [u8]) -> Sent
+// Refusals: 9 one of the two is shorter than its room.
+pub fn send_outward(s: &[u8], out: &mut [u8], line: &mut [u8]) -> Result<Sent, Refusal>
     ensures line_after { outcome result (out.new, line.new) ≡ sent_into s.now out.old line.old }
-    ensures copy_in_bounds { result.copy ≤ length out.new }
-    ensures copy_value { result.copy ≡ length (take result.copy out.new) }
-    ensures words_in_bounds { result.words ≤ length line.new }
-    ensures words_value { result.words ≡ length (take result.words line.new) }
+    ensures copy_in_bounds { (send_answer result).copy ≤ length out.new }
+    ensures copy_value { (send_answer result).copy ≡ length (take (send_answer result).copy out.new) }
+    ensures words_in_bounds { (send_answer result).words ≤ length line.new }
+    ensures words_value { (send_answer result).words ≡ length (take (send_answer result).words line.new) }
 {
-    if out.len() < COPY_ROOM {
-        return refused();
+    if out.len() < COPY_ROOM || line.len() < LINE_ROOM {
+        return Err(Refusal::Buffer);
     }
-    if line.len() < crate::answering::LINE_ROOM {
-        return refused();
+    match copy(s, out) {
+        Ok(n) => Ok(Sent::Copy(n)),
+        Err(_) => Ok(send_words(s, line)),
     }
-    if crate::answering::MOST < s.len() {
-        return send_words(s, line);
-    }
-    send_read(s, out, line)
 }

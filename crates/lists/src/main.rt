@@ -6,24 +6,6 @@ use std::fs::File;
 use std::io;
 use std::rt::{Env, Files};
 
-fn say(rt: &impl Print, text: &[u8]) -> io::Result<()> {
-    rt.write_all(text)
-}
-
-fn check(rt: &impl Print, s: &[u8]) -> io::Result<()> {
-    let mut out = [0u8; listing::answering::LINE_ROOM];
-    let listed = listing::check_line(s, &mut out);
-    let length = listed.length;
-    say(rt, &out[..length])
-}
-
-fn list(rt: &impl Print, s: &[u8]) -> io::Result<()> {
-    let mut out = listing::output_room();
-    let listed = listing::list_table(s, &mut out);
-    let length = listed.length;
-    say(rt, &out[..length])
-}
-
 // std takes a path as text.
 fn open<R: Files>(rt: &R, path: &[u8]) -> io::Result<R::File> {
     match str::from_utf8(path) {
@@ -58,33 +40,36 @@ fn list_file<R: Files + Print + Alloc>(rt: &R, errors: &impl Print, path: &[u8])
         Ok(n) => n,
         Err(why) => return fail(rt, errors, path, why),
     };
-    say(rt, path)?;
-    say(rt, b": ")?;
-    check(rt, &input[..n])?;
-    list(rt, &input[..n])
+    rt.write_all(path)?;
+    rt.write_all(b": ")?;
+    let mut line = [0; listing::answering::LINE_ROOM];
+    if let Ok(length) = listing::check_line(&input[..n], &mut line) {
+        rt.write_all(&line[..length])?;
+    }
+    let mut out = listing::output_room();
+    match listing::list_table(&input[..n], &mut out) {
+        Ok(length) => rt.write_all(&out[..length]),
+        // the room is long enough
+        Err(_) => Ok(()),
+    }
 }
 
-// Lists the file that argument `i` names, and says whether there is such an argument. One that is too long names no file.
-fn list_argument<R: Env + Files + Print + Alloc>(
-    rt: &R,
-    errors: &impl Print,
-    i: usize,
-) -> io::Result<bool> {
-    let mut path = [0u8; 4096];
-    let n = match rt.arg(i, &mut path) {
-        Ok(n) => n,
-        Err(FillError::TooLong) => 0,
-        Err(FillError::NotPresent) => return Ok(false),
-    };
-    list_file(rt, errors, &path[..n])?;
-    Ok(true)
+// The path that argument `i` is, put into `room`. One that is too long names no file.
+fn path_of<'a>(rt: &impl Env, i: usize, room: &'a mut [u8]) -> Option<&'a [u8]> {
+    match rt.arg(i, room) {
+        Ok(n) => Some(&room[..n]),
+        Err(FillError::TooLong) => Some(b""),
+        Err(FillError::NotPresent) => None,
+    }
 }
 
 fn main(rt: HostRuntime) -> io::Result<()> {
+    let mut room = [0; 4096];
     for i in 1..usize::MAX {
-        if !list_argument(&rt, &rt.stderr(), i)? {
+        let Some(path) = path_of(&rt, i, &mut room) else {
             break;
-        }
+        };
+        list_file(&rt, &rt.stderr(), path)?;
     }
     Ok(())
 }

@@ -3,18 +3,19 @@
 use Prim.Native.Nat.{ℕ, zero, suc, ◌+◌}
 use native.Mathlib.Numerals.{unary_clauses}
 use native.Mathlib.Omega.{arith}
-use mathlib.Core.Path.{◌≡◌, refl}
+use mathlib.Core.Path.{◌≡◌, refl, ap, ◌∙◌}
 use mathlib.Core.Logic.{◌⊎◌, inl, inr}
 use mathlib.Core.Bool.{Bool, true, false, cond, ◌&&◌}
 use borrow.Author.Tests.{le-leb, lt-leb}
+use Rattle.std.specs.Prelude.{Option, Some, None}
 use Rattle.network.specs.declared.Place.{Place}
 use Rattle.network.specs.declared.Lead.TheVariants.{Out, NotOffered}
 use Rattle.network.proofs.Tests.{clash}
 use Rattle.mesh.specs.declared.Profile.{Profile}
 use Rattle.mesh.specs.declared.Step.{Step}
-use Rattle.mesh.specs.declared.Step.TheVariants.{Enter, Right, Left, Up, Down, Change, Deliver, Unknown}
+use Rattle.mesh.specs.declared.Step.TheVariants.{Enter, Right, Left, Up, Down, Change, Deliver}
 use Rattle.mesh.specs.declared.Signs.{Signs}
-use Rattle.mesh.specs.Rule.{step_of, signs_of, offers, keeps, leads, ruled}
+use Rattle.mesh.specs.Rule.{step_of, signs_of, offers, keeps, leads, ruled_for, ruled}
 use Rattle.mesh.specs.Mesh.{is_code}
 use Rattle.mesh.proofs.Hops.{other_code}
 
@@ -43,12 +44,11 @@ out_step Up n s true e = clash cc
 out_step Down n s true e = clash cc
 out_step Change n s true e = clash cc
 out_step Deliver n s true e = refl
-out_step Unknown n s true e = clash cc
 
-deliver_code : (c : ℕ) → step_of c ≡ Deliver → c ≡ 7
+deliver_code : (c : ℕ) → step_of c ≡ Some Deliver → c ≡ 7
 unfolding step_of
 deliver_code =
-    by_code (λ c. step_of c ≡ Deliver → c ≡ 7)
+    by_code (λ c. step_of c ≡ Some Deliver → c ≡ 7)
     (λ e. clash cc)
     (λ e. clash cc)
     (λ e. clash cc)
@@ -58,15 +58,20 @@ deliver_code =
     (λ e. refl)
     (λ c u e. clash (cc (unknown-step c u)))
   where
-    unknown-step : (c : ℕ) → is_code c ≡ false → step_of c ≡ Unknown
+    unknown-step : (c : ℕ) → is_code c ≡ false → step_of c ≡ None
     unknown-step c u =
         let other = other_code c u in
         simp (other 1 refl, other 2 refl, other 3 refl, other 4 refl, other 5 refl, other 6 refl, other 7 refl)
 
 pub out_code : (profile : Profile) (p : Place) (d c : ℕ) → ruled profile p d c ≡ Out → c ≡ 7
 unfolding ruled
-out_code profile p d c e = deliver_code c (out_step (step_of c) p.node (signs_of p.node d)
-    (keeps profile (step_of c) (signs_of p.node d) p.kind && offers (step_of c) (signs_of p.node d) p.kind) e)
+out_code profile p d c = go (step_of c) refl
+  where
+    go : (step : Option Step) → step_of c ≡ step → ruled_for profile step p (signs_of p.node d) ≡ Out → c ≡ 7
+    go None q e = clash cc
+    go (Some step) q e =
+        let s : Signs = signs_of p.node d in
+        deliver_code c (q ∙ ap Some (out_step step p.node s (keeps profile step s p.kind && offers step s p.kind) e))
 
 -- and it leads nowhere else
 pub delivers : (profile : Profile) (p : Place) (d : ℕ) → (ruled profile p d 7 ≡ Out) ⊎ (ruled profile p d 7 ≡ NotOffered)

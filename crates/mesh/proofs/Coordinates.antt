@@ -7,7 +7,6 @@ use mathlib.Core.Path.{◌≡◌, refl, sym, ◌∙◌}
 use mathlib.Core.Bool.{Bool, true, false, cond}
 use lib.Dec.{ltb}
 use lib.IntN.{ℤ, pos, negsuc, nat_abs}
-use lib.Signed.{mag}
 use borrow.Author.Tests.{lt-ltb, le-ltb, ltb-true, ltb-false}
 use Rattle.mesh.specs.Axis.{difference, rises, falls}
 
@@ -26,18 +25,17 @@ module _ (x z : ℕ) where
     rise : rises d ≡ ltb x z
     fall : falls d ≡ ltb z x
     abs : nat_abs d ≡ (z - x) + (x - z)
-    small : mag d ≤ z + x
 
 reads_by : (x z : ℕ) (t : Bool) → ltb z (suc x) ≡ t → Reads (suc x) z (cond t (negsuc (suc x - suc z)) (pos (z - suc x)))
 reads_by x z true e =
     let h : z < suc x = ltb-true z (suc x) e in
-    record { rise = sym (le-ltb (suc x) z (omega arith)); fall = sym e; abs = omega arith; small = omega arith }
+    record { rise = sym (le-ltb (suc x) z (omega arith)); fall = sym e; abs = omega arith }
 reads_by x z false e =
     let h : suc x ≤ z = ltb-false z (suc x) e in
-    record { rise = ltb_same 0 (z - suc x) (suc x) z (λ p. omega arith) (λ p. omega arith); fall = le-ltb (z - suc x) 0 (omega arith) ∙ sym e; abs = omega arith; small = omega arith }
+    record { rise = ltb_same 0 (z - suc x) (suc x) z (λ p. omega arith) (λ p. omega arith); fall = le-ltb (z - suc x) 0 (omega arith) ∙ sym e; abs = omega arith }
 
 reads : (x z : ℕ) → Reads x z (difference x z)
-reads zero z = rw add-zero (record { rise = refl; fall = refl; abs = omega arith; small = omega arith })
+reads zero z = rw add-zero (record { rise = refl; fall = refl; abs = omega arith })
 reads (suc x) z = reads_by x z (ltb z (suc x)) refl
 
 module _ (x z : ℕ) where
@@ -52,6 +50,3 @@ module _ (x z : ℕ) where
   -- its magnitude, by truncated subtraction
   pub nat_abs_is : nat_abs (difference x z) ≡ (z - x) + (x - z)
   nat_abs_is = (reads x z).abs
-
-  pub mag_le : mag (difference x z) ≤ z + x
-  mag_le = (reads x z).small

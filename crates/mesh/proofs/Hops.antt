@@ -4,11 +4,12 @@
 use Prim.Native.Nat.{ℕ, suc, ◌<◌, ◌≤◌}
 use native.Mathlib.Omega.{arith}
 use mathlib.Core.Path.{◌≡◌, refl}
-use mathlib.Core.Bool.{Bool, true, false, not, cond, ◌&&◌, ◌||◌, false≢true, and-false}
+use mathlib.Core.Bool.{Bool, true, false, not, cond, ◌&&◌, ◌||◌, false≢true}
 use mathlib.Core.Logic.{◌≢◌}
 use lib.Dec.{ltb, eqb}
 use lib.IntN.{nat_abs}
 use borrow.Author.Tests.{ltb-true, lt-ltb, ne_eqb}
+use Rattle.std.specs.Prelude.{Option, Some, None}
 use Rattle.network.specs.declared.Kind.{Kind}
 use Rattle.network.specs.declared.Kind.TheVariants.{Waiting, A, B}
 use Rattle.network.specs.declared.Place.{Place}
@@ -18,10 +19,10 @@ use Rattle.network.specs.Net.{at, beside}
 use Rattle.network.proofs.Tests.{and_l, and_r, clash}
 use Rattle.mesh.specs.declared.Profile.{Profile}
 use Rattle.mesh.specs.declared.Step.{Step}
-use Rattle.mesh.specs.declared.Step.TheVariants.{Enter, Right, Left, Up, Down, Change, Deliver, Unknown}
+use Rattle.mesh.specs.declared.Step.TheVariants.{Enter, Right, Left, Up, Down, Change, Deliver}
 use Rattle.mesh.specs.Axis.{difference}
 use Rattle.mesh.specs.Grid.{x_of, y_of, on_grid, dx_of, dy_of, distance_of}
-use Rattle.mesh.specs.Rule.{step_of, signs_of, settled_by, in_each, offers, keeps, leads, ruled}
+use Rattle.mesh.specs.Rule.{step_of, signs_of, settled_by, in_each, offers, keeps, leads, ruled_for, ruled}
 use Rattle.mesh.specs.Mesh.{is_code}
 use Rattle.mesh.proofs.Coordinates.{nat_abs_is}
 use Rattle.mesh.proofs.Offers.{settled_means, settled_by_lem, offered_toward}
@@ -117,16 +118,19 @@ module _ (profile : Profile) (h d : ℕ) where
   offered_tells Change A o = (omega arith, λ e. o)
   offered_tells Change B o = absurd (false≢true o)
   offered_tells Deliver k o = offered_toward h d Deliver k o
-  offered_tells Unknown k o = tt
+
+  step_tells : (step : Step) (k : Kind) (t : Bool) → keeps profile step (signs_of h d) k && offers step (signs_of h d) k ≡ t
+      → Told k (cond t (leads step h (signs_of h d)) NotOffered)
+  step_tells step k true o = offered_tells step k (and_r (keeps profile step (signs_of h d) k) _ o)
+  step_tells step k false o = tt
 
   pub tells : (k : Kind) (c : ℕ) → Told k (ruled profile (at h k) d c)
   unfolding ruled
-  tells k c = go (keeps profile (step_of c) (signs_of h d) k && offers (step_of c) (signs_of h d) k) refl
+  tells k c = go (step_of c)
     where
-      go : (t : Bool) → keeps profile (step_of c) (signs_of h d) k && offers (step_of c) (signs_of h d) k ≡ t
-          → Told k (cond t (leads (step_of c) h (signs_of h d)) NotOffered)
-      go true o = offered_tells (step_of c) k (and_r (keeps profile (step_of c) (signs_of h d) k) _ o)
-      go false o = tt
+      go : (step : Option Step) → Told k (ruled_for profile step (at h k) (signs_of h d))
+      go None = tt
+      go (Some step) = step_tells step k (keeps profile step (signs_of h d) k && offers step (signs_of h d) k) refl
 
   module _ (k : Kind) (c n : ℕ) (e : ruled profile (at h k) d c ≡ Hop n) where
     told_hop : (k ≢ Waiting) × Hopping h d n
@@ -165,13 +169,8 @@ module _ (profile : Profile) (h d : ℕ) where
 pub other_code : (c : ℕ) → is_code c ≡ false → (i : ℕ) → is_code i ≡ true → eqb c i ≡ false
 other_code c e i f = ne_eqb c i (λ q. clash (cc))
 
-never : (k : Kind) → in_each false false false k ≡ false
-never Waiting = refl
-never A = refl
-never B = refl
-
 pub unknown_never : (profile : Profile) (p : Place) (d c : ℕ) → is_code c ≡ false → ruled profile p d c ≡ NotOffered
 unfolding ruled step_of
 unknown_never profile p d c e =
     let other = other_code c e in
-    simp (other 1 refl, other 2 refl, other 3 refl, other 4 refl, other 5 refl, other 6 refl, other 7 refl, never p.kind, and-false)
+    simp (other 1 refl, other 2 refl, other 3 refl, other 4 refl, other 5 refl, other 6 refl, other 7 refl)

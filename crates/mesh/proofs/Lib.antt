@@ -1,5 +1,4 @@
 pub mod Coordinates
-pub mod Bits
 pub mod Offers
 pub mod Metric
 pub mod Hops

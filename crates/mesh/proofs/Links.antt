@@ -5,6 +5,7 @@ use Prim.Native.Nat.{ℕ, ◌-◌}
 use mathlib.Core.Path.{◌≡◌, refl}
 use mathlib.Core.Bool.{Bool, true, false, cond, ◌&&◌}
 use mathlib.Core.Logic.{◌⊎◌, inl, inr, ◌≢◌}
+use Rattle.std.specs.Prelude.{Option, Some, None}
 use Rattle.network.specs.declared.Kind.{Kind}
 use Rattle.network.specs.declared.Kind.TheVariants.{A, B}
 use Rattle.network.specs.declared.Place.{Place}
@@ -15,18 +16,17 @@ use Rattle.network.proofs.Tests.{clash}
 use Rattle.mesh.specs.declared.Profile.{Profile}
 use Rattle.mesh.specs.declared.Profile.TheVariants.{Full}
 use Rattle.mesh.specs.declared.Step.{Step}
-use Rattle.mesh.specs.declared.Step.TheVariants.{Enter, Right, Left, Up, Down, Change, Deliver, Unknown}
+use Rattle.mesh.specs.declared.Step.TheVariants.{Enter, Right, Left, Up, Down, Change, Deliver}
 use Rattle.mesh.specs.declared.Signs.{Signs}
 use Rattle.mesh.specs.Grid.{node}
-use Rattle.mesh.specs.Rule.{step_of, signs_of, settled_by, offers, keeps, leads, ruled}
+use Rattle.mesh.specs.Rule.{step_of, signs_of, settled_by, offers, keeps, leads, ruled_by, ruled_for, ruled}
 use Rattle.mesh.proofs.Hops.{unknown_never}
 use Rattle.mesh.proofs.Codes.{by_code}
 
--- a code that hops is offered, and its step leads there
-hops : (profile : Profile) (p : Place) (d c n : ℕ) → ruled profile p d c ≡ Hop n
-    → (offers (step_of c) (signs_of p.node d) p.kind ≡ true) × (leads (step_of c) p.node (signs_of p.node d) ≡ Hop n)
-unfolding ruled
-hops profile p d c n = go (keeps profile (step_of c) (signs_of p.node d) p.kind) (offers (step_of c) (signs_of p.node d) p.kind) _
+-- a step that hops is offered, and leads there
+hops : (profile : Profile) (step : Step) (p : Place) (s : Signs) (n : ℕ) → ruled_by profile step p s ≡ Hop n
+    → (offers step s p.kind ≡ true) × (leads step p.node s ≡ Hop n)
+hops profile step p s n = go (keeps profile step s p.kind) (offers step s p.kind) _
   where
     go : (k o : Bool) (l : Lead) → cond (k && o) l NotOffered ≡ Hop n → (o ≡ true) × (l ≡ Hop n)
     go true true l e = (refl, e)
@@ -43,25 +43,29 @@ step_link Up h s t n m e f = cc
 step_link Down h s t n m e f = cc
 step_link Change h s t n m e f = clash cc
 step_link Deliver h s t n m e f = clash cc
-step_link Unknown h s t n m e f = clash cc
 
 pub same_link : (profile : Profile) (k l : Kind) (h d e c n m : ℕ) → ruled profile (at h k) d c ≡ Hop n → ruled profile (at h l) e c ≡ Hop m → n ≡ m
-same_link profile k l h d e c n m a b =
-    step_link (step_of c) h (signs_of h d) (signs_of h e) n m (hops profile (at h k) d c n a).1 (hops profile (at h l) e c m b).1
+unfolding ruled
+same_link profile k l h d e c n m = go (step_of c)
+  where
+    go : (step : Option Step) → ruled_for profile step (at h k) (signs_of h d) ≡ Hop n → ruled_for profile step (at h l) (signs_of h e) ≡ Hop m → n ≡ m
+    go None a b = clash cc
+    go (Some step) a b =
+        step_link step h (signs_of h d) (signs_of h e) n m (hops profile step (at h k) _ n a).1 (hops profile step (at h l) _ m b).1
 
 -- ---- codes 3 and 5
 
 pub B_hops_by : (profile : Profile) (h d c n : ℕ) → ruled profile (at h B) d c ≡ Hop n → (c ≡ 3) ⊎ (c ≡ 5)
-unfolding step_of
+unfolding ruled step_of
 B_hops_by profile h d c n =
     by_code (λ c. ruled profile (at h B) d c ≡ Hop n → (c ≡ 3) ⊎ (c ≡ 5))
-    (λ e. clash (cc (hops profile (at h B) d 1 n e).0))
-    (λ e. clash (cc (hops profile (at h B) d 2 n e).0))
+    (λ e. clash (cc (hops profile Enter (at h B) (signs_of h d) n e).0))
+    (λ e. clash (cc (hops profile Right (at h B) (signs_of h d) n e).0))
     (λ e. inl refl)
-    (λ e. clash (cc (hops profile (at h B) d 4 n e).0))
+    (λ e. clash (cc (hops profile Up (at h B) (signs_of h d) n e).0))
     (λ e. inr refl)
-    (λ e. clash (cc (hops profile (at h B) d 6 n e).0))
-    (λ e. clash (cc (hops profile (at h B) d 7 n e).1))
+    (λ e. clash (cc (hops profile Change (at h B) (signs_of h d) n e).0))
+    (λ e. clash (cc (hops profile Deliver (at h B) (signs_of h d) n e).1))
     (λ c u e. clash (cc (unknown_never profile (at h B) d c u)))
     c
 

@@ -10,7 +10,7 @@ use Rattle.network.specs.declared.Kind.{Kind}
 use Rattle.network.specs.declared.Kind.TheVariants.{Waiting, A, B}
 use Rattle.network.proofs.Tests.{and_l, and_r}
 use Rattle.mesh.specs.declared.Step.{Step}
-use Rattle.mesh.specs.declared.Step.TheVariants.{Enter, Right, Left, Up, Down, Change, Deliver, Unknown}
+use Rattle.mesh.specs.declared.Step.TheVariants.{Enter, Right, Left, Up, Down, Change, Deliver}
 use Rattle.mesh.specs.declared.Signs.{Signs}
 use Rattle.mesh.specs.Grid.{x_of, y_of}
 use Rattle.mesh.specs.Rule.{signs_of, settled_by, arrived_by, offers, Addressable}
@@ -75,7 +75,6 @@ Toward Up h d = y_of h < y_of d
 Toward Down h d = y_of d < y_of h
 Toward Change h d = Settled h d
 Toward Deliver h d = h ≡ d
-Toward Unknown h d = ⊥
 
 module _ (h d : ℕ) where
   right_lt : (signs_of h d).right ≡ true → x_of h < x_of d
@@ -110,9 +109,6 @@ module _ (h d : ℕ) where
   offered_toward Deliver Waiting e = absurd (false≢true e)
   offered_toward Deliver A e = arrived_means h d e
   offered_toward Deliver B e = arrived_means h d e
-  offered_toward Unknown Waiting e = false≢true e
-  offered_toward Unknown A e = false≢true e
-  offered_toward Unknown B e = false≢true e
 
   -- an offered hop's target is an address byte
   pub toward_room : d < 256 → h < 256 → (step : Step) → Toward step h d → Addressable step h
@@ -123,4 +119,3 @@ module _ (h d : ℕ) where
   toward_room hd hh Down t = omega arith
   toward_room hd hh Change t = tt
   toward_room hd hh Deliver t = tt
-  toward_room hd hh Unknown t = tt

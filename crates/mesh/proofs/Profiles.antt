@@ -6,6 +6,7 @@ use native.Mathlib.Omega.{arith}
 use mathlib.Core.Path.{◌≡◌, refl, sym, ◌∙◌}
 use mathlib.Core.Bool.{Bool, true, false, cond, ◌&&◌}
 use mathlib.Core.Logic.{◌⊎◌, inl, inr}
+use Rattle.std.specs.Prelude.{Option, Some, None}
 use Rattle.network.specs.declared.Kind.{Kind}
 use Rattle.network.specs.declared.Kind.TheVariants.{Waiting, A, B}
 use Rattle.network.specs.declared.Place.{Place}
@@ -18,7 +19,7 @@ use Rattle.mesh.specs.declared.Profile.TheVariants.{Full, Adapt, Oblivious}
 use Rattle.mesh.specs.declared.Step.{Step}
 use Rattle.mesh.specs.declared.Step.TheVariants.{Right, Left, Up}
 use Rattle.mesh.specs.declared.Signs.{Signs}
-use Rattle.mesh.specs.Rule.{step_of, signs_of, in_each, offers, is_static, is_chosen, keeps, leads, ruled}
+use Rattle.mesh.specs.Rule.{step_of, signs_of, offers, is_static, is_chosen, keeps, leads, ruled_for, ruled}
 use Rattle.mesh.specs.Published.{published}
 use Rattle.mesh.proofs.Hops.{unknown_never}
 use Rattle.mesh.proofs.Codes.{by_code}
@@ -32,9 +33,14 @@ kept_or_not false o l = inl refl
 
 narrower : (profile : Profile) (p : Place) (d c : ℕ) → (ruled profile p d c ≡ NotOffered) ⊎ (ruled profile p d c ≡ ruled Full p d c)
 unfolding ruled
-narrower profile p d c =
-    let s : Signs = signs_of p.node d in
-    kept_or_not (keeps profile (step_of c) s p.kind) (offers (step_of c) s p.kind) (leads (step_of c) p.node s)
+narrower profile p d c = go (step_of c)
+  where
+    s : Signs
+    s = signs_of p.node d
+
+    go : (step : Option Step) → (ruled_for profile step p s ≡ NotOffered) ⊎ (ruled_for profile step p s ≡ ruled_for Full step p s)
+    go None = inl refl
+    go (Some step) = kept_or_not (keeps profile step s p.kind) (offers step s p.kind) (leads step p.node s)
 
 -- where a code leads on a board of a profile, it leads on one of profile 0
 pub offered_by_full : (profile : Profile) (p : Place) (d c : ℕ)
@@ -97,12 +103,6 @@ one_hop_lem p d c c' n n' e e' =
     only p.node d p.kind c n (published_is Oblivious p d c ∙ e) ∙ sym (only p.node d p.kind c' n' (published_is Oblivious p d c' ∙ e'))
 
 -- ---- a way on
-
--- what is kept in all queues is kept in each
-pub everywhere : (k : Kind) → true ≡ in_each true true true k
-everywhere Waiting = refl
-everywhere A = refl
-everywhere B = refl
 
 -- a static move that is chosen is kept in every profile
 pub keeps_chosen : (profile : Profile) (step : Step) (s : Signs) (k : Kind) → is_static step k ≡ true → is_chosen step s k ≡ true → keeps profile step s k ≡ true

@@ -1,7 +1,7 @@
 -- Document 01's rule of moves, row by row of its table, and what a board's profile keeps of it (document 02, order 2). Here (x, y), destination
 -- (z, w); the conditions are the signs of z - x and w - y.
 -- Assumes nothing.
-use Rattle.std.specs.Prelude.{ℕ, ◌+◌, ◌-◌, ◌≤◌, ◌<◌, Bool, true, false, not, cond, ◌&&◌, ◌||◌, eqb}
+use Rattle.std.specs.Prelude.{ℕ, ◌+◌, ◌-◌, ◌≤◌, ◌<◌, Bool, true, false, not, cond, ◌&&◌, ◌||◌, eqb, Option, Some, None}
 use Rattle.network.specs.declared.Kind.{Kind}
 use Rattle.network.specs.declared.Kind.TheVariants.{Waiting, A, B}
 use Rattle.network.specs.declared.Place.{Place}
@@ -10,22 +10,22 @@ use Rattle.network.specs.declared.Lead.TheVariants.{Hop, Turn, Out, NotOffered}
 use Rattle.mesh.specs.declared.Profile.{Profile}
 use Rattle.mesh.specs.declared.Profile.TheVariants.{Full, Adapt, Oblivious}
 use Rattle.mesh.specs.declared.Step.{Step}
-use Rattle.mesh.specs.declared.Step.TheVariants.{Enter, Right, Left, Up, Down, Change, Deliver, Unknown}
+use Rattle.mesh.specs.declared.Step.TheVariants.{Enter, Right, Left, Up, Down, Change, Deliver}
 use Rattle.mesh.specs.declared.Signs.{Signs}
 use Rattle.mesh.specs.Axis.{rises, falls}
 use Rattle.mesh.specs.Grid.{dx_of, dy_of}
 
 -- the first column
-unfoldable pub step_of : ℕ → Step
+unfoldable pub step_of : ℕ → Option Step
 step_of code =
-    cond (eqb code 1) Enter
-    (cond (eqb code 2) Right
-    (cond (eqb code 3) Left
-    (cond (eqb code 4) Up
-    (cond (eqb code 5) Down
-    (cond (eqb code 6) Change
-    (cond (eqb code 7) Deliver
-    Unknown))))))
+    cond (eqb code 1) (Some Enter)
+    (cond (eqb code 2) (Some Right)
+    (cond (eqb code 3) (Some Left)
+    (cond (eqb code 4) (Some Up)
+    (cond (eqb code 5) (Some Down)
+    (cond (eqb code 6) (Some Change)
+    (cond (eqb code 7) (Some Deliver)
+    None))))))
 
 -- z > x, z < x, w > y, w < y
 unfoldable pub signs_of : ℕ → ℕ → Signs
@@ -59,7 +59,6 @@ offers Up s = in_each false s.up false
 offers Down s = in_each false (s.down && s.right) s.down
 offers Change s = in_each false (settled_by s) false
 offers Deliver s = in_each false (arrived_by s) (arrived_by s)
-offers Unknown s = in_each false false false
 
 -- the profile of a number
 unfoldable pub profile_of : ℕ → Profile
@@ -74,7 +73,6 @@ is_static Up = in_each true true true
 is_static Down = in_each true false true
 is_static Change = in_each true true true
 is_static Deliver = in_each true true true
-is_static Unknown = in_each true true true
 
 -- of several static moves one: in A Right before Up, in B Left before Down, at the destination Deliver before Change
 abbrev pub is_chosen : Step → Signs → Kind → Bool
@@ -85,7 +83,6 @@ is_chosen Up s = in_each true (not s.right) true
 is_chosen Down s = in_each true true (not s.left)
 is_chosen Change s = in_each true (not (arrived_by s)) true
 is_chosen Deliver s = in_each true true true
-is_chosen Unknown s = in_each true true true
 
 -- source 003, section VII: "removing all the dynamic transitions from FULL"; "choosing one only among the static transitions"
 abbrev pub keeps : Profile → Step → Signs → Kind → Bool
@@ -102,7 +99,6 @@ leads Up n s = Hop (n + 16)
 leads Down n s = Hop (n - 16)
 leads Change n s = Turn B
 leads Deliver n s = Out
-leads Unknown n s = NotOffered
 
 -- a hop's target is an address byte
 abbrev pub Addressable : Step → ℕ → Type 0
@@ -113,11 +109,15 @@ Addressable Up n = n + 16 < 256
 Addressable Down n = 16 ≤ n
 Addressable Change n = Unit {0}
 Addressable Deliver n = Unit {0}
-Addressable Unknown n = Unit {0}
 
 abbrev pub ruled_by : Profile → Step → Place → Signs → Lead
 ruled_by profile step p s = cond (keeps profile step s p.kind && offers step s p.kind) (leads step p.node s) NotOffered
 
+-- what is no step is never offered
+abbrev pub ruled_for : Profile → Option Step → Place → Signs → Lead
+ruled_for profile None p s = NotOffered
+ruled_for profile (Some step) p s = ruled_by profile step p s
+
 -- the rule: where a code leads a packet from its place, for its destination, on a board of a profile
 unfoldable pub ruled : Profile → Place → ℕ → ℕ → Lead
-ruled profile p destination code = ruled_by profile (step_of code) p (signs_of p.node destination)
+ruled profile p destination code = ruled_for profile (step_of code) p (signs_of p.node destination)

@@ -3,12 +3,10 @@
 
 ghost use Rattle.std.specs.Prelude.{◌≡◌};
 ghost use Rattle.mesh.specs.Grid.{on_grid, distance_of};
-ghost use Rattle.mesh.specs.Rule.{profile_of, step_of, signs_of, settled_by, arrived_by, in_each, offers, is_static, is_chosen, keeps, Addressable, leads, ruled};
+ghost use Rattle.mesh.specs.Rule.{profile_of, step_of, signs_of, settled_by, arrived_by, offers, is_static, is_chosen, keeps, Addressable, leads, ruled};
 ghost use Rattle.mesh.specs.Mesh.{is_code};
 
 use network::{Kind, Lead, Place};
-
-mod axis;
 
 // Which of the rule's moves a board has (document 02, order 2), in the words of source 003, section VII.
 #[derive(Clone, Copy)]
@@ -31,7 +29,6 @@ pub enum Step {
     Down,
     Change,
     Deliver,
-    Unknown,
 }
 
 // The signs of the two differences, from here (x, y) to the destination (z, w).
@@ -51,19 +48,14 @@ pub struct Signs {
 pub fn on_grid(width: usize, height: usize, node: u8) -> bool
     ensures { result ≡ on_grid width height node }
 {
-    let x = (node % 16) as usize;
-    let y = (node / 16) as usize;
-    if width <= x {
-        return false;
-    }
-    y < height
+    usize::from(node % 16) < width && usize::from(node / 16) < height
 }
 
+#[tactic(auto, unfolding(crate::specs::Grid::distance_of))]
 pub fn distance(a: u8, b: u8) -> u32
     ensures { result ≡ distance_of a b }
 {
-    axis::magnitude(axis::difference(a % 16, b % 16))
-        + axis::magnitude(axis::difference(a / 16, b / 16))
+    u32::from((a % 16).abs_diff(b % 16)) + u32::from((a / 16).abs_diff(b / 16))
 }
 
 // The highest code.
@@ -73,13 +65,10 @@ pub const LAST_CODE: u32 = 7;
 pub fn is_code(code: u32) -> bool
     ensures { result ≡ is_code code }
 {
-    if code < 1 {
-        return false;
-    }
-    code <= LAST_CODE
+    (1..=LAST_CODE).contains(&code)
 }
 
-// The profile of a number; those above 2 are on no board that is accepted.
+// The profile of a number. Total and no `TryFrom`: `net_of` answers for a board of any number, and may not change; those above 2 are on no good board.
 #[tactic(auto, unfolding(crate::specs::Rule::profile_of))]
 pub fn profile_of(number: usize) -> Profile
     ensures { result ≡ profile_of number }
@@ -91,32 +80,34 @@ pub fn profile_of(number: usize) -> Profile
     }
 }
 
+// A code comes as a number from the chip that proposes moves, and is one until here: the promises say what is answered to each number.
 #[tactic(auto, unfolding(crate::specs::Rule::step_of))]
-fn step_of(code: u32) -> Step
+fn step_of(code: u32) -> Option<Step>
     ensures { result ≡ step_of code }
 {
     match code {
-        1 => Step::Enter,
-        2 => Step::Right,
-        3 => Step::Left,
-        4 => Step::Up,
-        5 => Step::Down,
-        6 => Step::Change,
-        7 => Step::Deliver,
-        _ => Step::Unknown,
+        1 => Some(Step::Enter),
+        2 => Some(Step::Right),
+        3 => Some(Step::Left),
+        4 => Some(Step::Up),
+        5 => Some(Step::Down),
+        6 => Some(Step::Change),
+        7 => Some(Step::Deliver),
+        _ => None,
     }
 }
 
+#[tactic(auto, using(crate::proofs::Offers::signs_are))]
 fn signs_of(here: u8, destination: u8) -> Signs
     ensures { result ≡ signs_of here destination }
 {
-    let dx = axis::difference(here % 16, destination % 16);
-    let dy = axis::difference(here / 16, destination / 16);
+    let (x, y) = (here % 16, here / 16);
+    let (z, w) = (destination % 16, destination / 16);
     Signs {
-        right: 0 < dx,
-        left: dx < 0,
-        up: 0 < dy,
-        down: dy < 0,
+        right: x < z,
+        left: z < x,
+        up: y < w,
+        down: w < y,
     }
 }
 
@@ -125,53 +116,31 @@ pub fn settled(here: u8, destination: u8) -> bool
     ensures { result ≡ settled_by (signs_of here destination) }
 {
     let s = signs_of(here, destination);
-    let right = s.right;
-    let up = s.up;
-    !right & !up
+    !s.right && !s.up
 }
 
 // Here is the destination.
 fn arrived(s: Signs) -> bool
     ensures { result ≡ arrived_by s }
 {
-    let right = s.right;
-    let left = s.left;
-    let up = s.up;
-    let down = s.down;
-    (!right & !left) & (!up & !down)
-}
-
-// One of three tests, by the queue kind.
-fn in_each(waiting: bool, a: bool, b: bool, kind: Kind) -> bool
-    ensures { result ≡ in_each waiting a b kind }
-{
-    match kind {
-        Kind::Waiting => waiting,
-        Kind::A => a,
-        Kind::B => b,
-    }
+    !s.right && !s.left && !s.up && !s.down
 }
 
 // Document 01's third column. Left and Down in A are the dynamic hops.
 fn offered(step: Step, s: Signs, kind: Kind) -> bool
     ensures { result ≡ offers step s kind }
 {
-    let right = s.right;
-    let left = s.left;
-    let up = s.up;
-    let down = s.down;
-    match step {
-        Step::Enter => in_each(true, false, false, kind),
-        Step::Right => in_each(false, right, false, kind),
-        Step::Left => in_each(false, left & up, left, kind),
-        Step::Up => in_each(false, up, false, kind),
-        Step::Down => in_each(false, down & right, down, kind),
-        Step::Change => in_each(false, !right & !up, false, kind),
-        Step::Deliver => {
-            let there = arrived(s);
-            in_each(false, there, there, kind)
-        }
-        Step::Unknown => false,
+    match (step, kind) {
+        (Step::Enter, Kind::Waiting) => true,
+        (Step::Right, Kind::A) => s.right,
+        (Step::Left, Kind::A) => s.left && s.up,
+        (Step::Left, Kind::B) => s.left,
+        (Step::Up, Kind::A) => s.up,
+        (Step::Down, Kind::A) => s.down && s.right,
+        (Step::Down, Kind::B) => s.down,
+        (Step::Change, Kind::A) => !s.right && !s.up,
+        (Step::Deliver, Kind::A | Kind::B) => arrived(s),
+        _ => false,
     }
 }
 
@@ -179,21 +148,17 @@ fn offered(step: Step, s: Signs, kind: Kind) -> bool
 fn is_static(step: Step, kind: Kind) -> bool
     ensures { result ≡ is_static step kind }
 {
-    match step {
-        Step::Left => in_each(true, false, true, kind),
-        Step::Down => in_each(true, false, true, kind),
-        _ => true,
-    }
+    !matches!((step, kind), (Step::Left | Step::Down, Kind::A))
 }
 
 // The one of several static moves: in A Right before Up, in B Left before Down, at the destination delivery before the change.
 fn is_chosen(step: Step, s: Signs, kind: Kind) -> bool
     ensures { result ≡ is_chosen step s kind }
 {
-    match step {
-        Step::Up => in_each(true, !s.right, true, kind),
-        Step::Down => in_each(true, true, !s.left, kind),
-        Step::Change => in_each(true, !arrived(s), true, kind),
+    match (step, kind) {
+        (Step::Up, Kind::A) => !s.right,
+        (Step::Down, Kind::B) => !s.left,
+        (Step::Change, Kind::A) => !arrived(s),
         _ => true,
     }
 }
@@ -205,7 +170,7 @@ fn kept(profile: Profile, step: Step, s: Signs, kind: Kind) -> bool
     match profile {
         Profile::Full => true,
         Profile::Adapt => is_static(step, kind),
-        Profile::Oblivious => is_static(step, kind) & is_chosen(step, s, kind),
+        Profile::Oblivious => is_static(step, kind) && is_chosen(step, s, kind),
     }
 }
 
@@ -214,23 +179,14 @@ fn lead(step: Step, node: u8, s: Signs) -> Lead
     requires { Addressable step node }
     ensures { result ≡ leads step node s }
 {
-    let right = s.right;
-    let up = s.up;
     match step {
-        Step::Enter => {
-            if right | up {
-                Lead::Turn(Kind::A)
-            } else {
-                Lead::Turn(Kind::B)
-            }
-        }
+        Step::Enter => Lead::Turn(if s.right || s.up { Kind::A } else { Kind::B }),
         Step::Right => Lead::Hop(node + 1),
         Step::Left => Lead::Hop(node - 1),
         Step::Up => Lead::Hop(node + 16),
         Step::Down => Lead::Hop(node - 16),
         Step::Change => Lead::Turn(Kind::B),
         Step::Deliver => Lead::Out,
-        Step::Unknown => Lead::NotOffered,
     }
 }
 
@@ -239,13 +195,11 @@ fn lead(step: Step, node: u8, s: Signs) -> Lead
 pub fn rule(profile: Profile, here: Place, destination: u8, code: u32) -> Lead
     ensures { result ≡ ruled profile here destination code }
 {
-    let node = here.node;
-    let kind = here.kind;
-    let s = signs_of(node, destination);
-    let step = step_of(code);
-    if kept(profile, step, s, kind) & offered(step, s, kind) {
-        lead(step, node, s)
-    } else {
-        Lead::NotOffered
+    let s = signs_of(here.node, destination);
+    match step_of(code) {
+        Some(step) if kept(profile, step, s, here.kind) && offered(step, s, here.kind) => {
+            lead(step, here.node, s)
+        }
+        _ => Lead::NotOffered,
     }
 }

@@ -8,3 +8,4 @@ pub mod Kept
 pub mod Progress
 pub mod Drain
 pub mod Slots
+pub mod RangeLaws

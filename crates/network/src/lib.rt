@@ -16,18 +16,12 @@ pub struct Place {
     pub kind: Kind,
 }
 
-// Where a move leads: a hop keeps the kind, a turn keeps the node, a delivered packet leaves the network.
+// Where a move leads: a hop keeps the kind, a turn keeps the node, a delivered packet leaves the network. `NotOffered` is one of the rule's four answers, and
+// no Option round three: the theorem `published_is` and the promises name all four.
 #[derive(Clone, Copy)]
 pub enum Lead {
     Hop(u8),
     Turn(Kind),
     Out,
     NotOffered,
-}
-
-// The lowest number with a property, if there is one.
-#[derive(Clone, Copy)]
-pub enum Lowest {
-    At(usize),
-    Nowhere,
 }

@@ -1,5 +1,6 @@
--- Where a payload is read it has eight bytes, and what crosses of a payload read and of a refusal.
+-- Where a payload is read it has eight bytes, and what crosses of a refusal.
 -- Assumes nothing.
+use Rattle.std.specs.Prelude.{Option, Some, None}
 use Prim.Native.Nat.{ℕ, ◌-◌}
 use mathlib.Core.Path.{◌≡◌, refl, sym, ap, ◌∙◌}
 use mathlib.Core.Logic.{◌≢◌}
@@ -14,12 +15,10 @@ use Rattle.slots.proofs.SlotLaws.{length-slot_at}
 use Rattle.board.specs.Layout.{Sized}
 use Rattle.board.proofs.BoardLaws.{slot_fits}
 use Rattle.trailer.specs.declared.Head.{Head}
-use Rattle.trailer.specs.declared.Headed.{Headed}
-use Rattle.trailer.specs.declared.Headed.TheVariants.{Good, Bad}
 use Rattle.trailer.specs.Trailer.{trailer_of}
 use Rattle.trailer.proofs.TrailerLaws.{trailer_sized}
 use Rattle.table.specs.Calls.{Outcome, on_headed}
-use Rattle.table.proofs.RefusalLaws.{accepted_by, refused_by_lem}
+use Rattle.table.proofs.RefusalLaws.{refused_by_lem}
 use Rattle.judging.specs.Named.{slot_due}
 use Rattle.judging.proofs.NamedLaws.{due_named}
 use Rattle.router.specs.ReadPayload.{Reading, reading, refusal, read_in, read_slice}
@@ -45,18 +44,15 @@ pub eight : (s : List ℕ) (k : ℕ) → number_of (read_slice s k) ≡ 0 → le
 unfolding read_slice
 eight s k e = go (trailer_of s) refl e
   where
-    go : (x : Headed) → trailer_of s ≡ x → number_of (on_headed s refusal (λ h t. read_in h t k) x) ≡ 0
+    go : (x : Option Head) → trailer_of s ≡ x → number_of (on_headed s refusal (λ h t. read_in h t k) x) ≡ 0
         → length_of (on_headed s refusal (λ h t. read_in h t k) x) ≡ 8
-    go Bad q e = clash (sym e)
-    go (Good h) q e = eight_in h (drop (length s - h.size) s) k (trailer_sized s q) e
+    go None q e = clash (sym e)
+    go (Some h) q e = eight_in h (drop (length s - h.size) s) k (trailer_sized s q) e
 
 -- ---- what crosses
 
 abbrev pub answered : ℕ → List ℕ → Read
 answered number payload = record { number = number; payload = payload }
-
-pub crosses : (n : ℕ) (bytes : List ℕ) → n ≡ 0 → answered n bytes ≡ read_across (reading n bytes)
-crosses n bytes e = ap (answered n) (sym (accepted_by bytes _ e))
 
 pub crosses_refused : (n : ℕ) (bytes : List ℕ) → n ≢ 0 → answered n (replicate 8 0) ≡ read_across (reading n bytes)
 crosses_refused n bytes u = ap (answered n) (sym (refused_by_lem bytes _ u))

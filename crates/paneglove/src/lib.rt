@@ -6,12 +6,28 @@
 ghost use Rattle.std.specs.Prelude.{◌≡◌};
 ghost use Rattle.table.specs.Calls.{outcome};
 ghost use Rattle.router.specs.Clear.{asked, cleared_slice};
+ghost use Rattle.router.specs.TakeIn.{take_answer};
+ghost use Rattle.router.specs.Move.{move_answer};
 ghost use Rattle.router.specs.ReadPayload.{read_slice};
 ghost use Rattle.survey.specs.Check.{check_answer, checked_slice};
 ghost use Rattle.survey.specs.Find.{find_answer, found_slice};
-ghost use Rattle.paneglove.specs.Across.{taken_across, moved_across, read_across, check_across, find_across, copied_across, listed_across};
+ghost use Rattle.listing.specs.Output.{list_answer};
+ghost use Rattle.paneglove.specs.Across.{
+  take_across,
+  taken_across,
+  move_across,
+  moved_across,
+  read_across,
+  check_across,
+  find_across,
+  copied_across,
+  list_across,
+  listed_across,
+};
 
-use survey::{checking, copying, finding};
+use router::{moving, taking};
+use survey::finding::Move;
+use table::Refusal;
 
 // A payload handed in: eight bytes by value.
 #[repr(C)]
@@ -29,6 +45,27 @@ pub struct Taken {
     pub left: u32,
 }
 
+impl From<Result<taking::Taken, Refusal>> for Taken {
+    ghost from_gives = { λ r a. a ≡ take_across (take_answer r) };
+
+    fn from(r: Result<taking::Taken, Refusal>) -> Taken {
+        match r {
+            Ok(a) => Taken {
+                number: 0,
+                slot: a.slot,
+                serial: a.serial,
+                left: a.left,
+            },
+            Err(e) => Taken {
+                number: e.number(),
+                slot: 0,
+                serial: 0,
+                left: 0,
+            },
+        }
+    }
+}
+
 #[repr(C)]
 #[derive(Clone, Copy)]
 pub struct Moved {
@@ -36,6 +73,30 @@ pub struct Moved {
     pub slot: u32,
     pub packet: [u8; 16],
     pub left: u32,
+}
+
+impl From<Result<moving::Moved, Refusal>> for Moved {
+    ghost from_gives = { λ r a. a ≡ move_across (move_answer r) };
+
+    fn from(r: Result<moving::Moved, Refusal>) -> Moved {
+        match r {
+            Ok(a) => {
+                let packet = a.packet;
+                Moved {
+                    number: 0,
+                    slot: a.slot,
+                    packet,
+                    left: a.left,
+                }
+            }
+            Err(e) => Moved {
+                number: e.number(),
+                slot: 0,
+                packet: [0u8; 16],
+                left: 0,
+            },
+        }
+    }
 }
 
 #[repr(C)]
@@ -52,6 +113,23 @@ pub struct Checked {
     pub place: u32,
 }
 
+impl From<Result<(), Refusal>> for Checked {
+    ghost from_gives = { λ r a. a ≡ check_across (check_answer r) };
+
+    fn from(r: Result<(), Refusal>) -> Checked {
+        match r {
+            Ok(()) => Checked {
+                number: 0,
+                place: 0,
+            },
+            Err(e) => Checked {
+                number: e.number(),
+                place: e.place(),
+            },
+        }
+    }
+}
+
 #[repr(C)]
 #[derive(Clone, Copy)]
 pub struct Found {
@@ -60,6 +138,26 @@ pub struct Found {
     pub code: u32,
 }
 
+impl From<Result<Move, Refusal>> for Found {
+    ghost from_gives = { λ r a. a ≡ find_across (find_answer r) };
+
+    fn from(r: Result<Move, Refusal>) -> Found {
+        match r {
+            Ok(m) => Found {
+                number: 0,
+                slot: m.slot,
+                code: m.code,
+            },
+            Err(e) => Found {
+                number: e.number(),
+                slot: e.place(),
+                code: 0,
+            },
+        }
+    }
+}
+
+// A type of its own beside `Checked`: `paneglove_copied` of the C interface.
 #[repr(C)]
 #[derive(Clone, Copy)]
 pub struct Copied {
@@ -74,40 +172,45 @@ pub struct Listed {
     pub length: usize,
 }
 
+impl From<Result<usize, Refusal>> for Listed {
+    ghost from_gives = { λ r a. a ≡ list_across (list_answer r) };
+
+    fn from(r: Result<usize, Refusal>) -> Listed {
+        match r {
+            Ok(length) => Listed { number: 0, length },
+            Err(e) => Listed {
+                number: e.number(),
+                length: 0,
+            },
+        }
+    }
+}
+
 // Refuses by 8 (width, height, depth or profile not accepted), then 9 (the slice is shorter than the table).
 pub fn paneglove_clear(s: &mut [u8], width: u32, height: u32, depth: u32, profile: u32) -> u32
     ensures { outcome result s.new ≡ cleared_slice s.old (asked width height depth profile) }
 {
-    router::clear(s, width, height, depth, profile)
+    match router::clear(s, width, height, depth, profile) {
+        Ok(()) => 0,
+        Err(e) => e.number(),
+    }
 }
 
 // Refuses by 1 (trailer), 2 (source or destination off the grid), 7 (no serial is left), then 6 (the source's waiting slot is held).
+#[tactic(auto, unfolding(crate::specs::Across::taken_across))]
 pub fn paneglove_take_in(s: &mut [u8], source: u8, destination: u8, payload: Payload) -> Taken
     ensures { outcome result s.new ≡ taken_across s.old source destination payload.bytes }
 {
-    let bytes = payload.bytes;
-    let a = router::take_in(s, source, destination, bytes);
-    Taken {
-        number: a.number,
-        slot: a.slot,
-        serial: a.serial,
-        left: a.left,
-    }
+    Taken::from(router::take_in(s, source, destination, payload.bytes))
 }
 
 // Refuses by 1 (trailer), 2 (no such slot, or no such code), 3 (the slot is empty), 4 (it is spoiled), 5 (the rule doesn't offer the move), 12
 // (a good packet in the node's B queue goes first on the link), then 6 (the target queue has no empty slot).
+#[tactic(auto, unfolding(crate::specs::Across::moved_across))]
 pub fn paneglove_make_move(s: &mut [u8], slot: u32, code: u32) -> Moved
     ensures { outcome result s.new ≡ moved_across s.old slot code }
 {
-    let a = router::make_move(s, slot, code);
-    let packet = a.packet;
-    Moved {
-        number: a.number,
-        slot: a.slot,
-        packet,
-        left: a.left,
-    }
+    Moved::from(router::make_move(s, slot, code))
 }
 
 // Refuses by 1 (trailer), 2 (no such slot), 3 (it is empty), then 4 (it is spoiled). A part of the slice can't cross, so the payload crosses by
@@ -115,46 +218,40 @@ pub fn paneglove_make_move(s: &mut [u8], slot: u32, code: u32) -> Moved
 pub fn paneglove_read_payload(s: &[u8], slot: u32) -> Read
     ensures { result ≡ read_across (read_slice s.now slot).answer }
 {
-    let mut number: u32 = 0;
-    let part = router::read_payload(s, slot, &mut number);
     let mut payload = [0u8; 8];
-    if number != 0 {
-        return Read { number, payload };
+    match router::read_payload(s, slot) {
+        Ok(part) => {
+            payload.copy_from_slice(part);
+            Read { number: 0, payload }
+        }
+        Err(e) => Read {
+            number: e.number(),
+            payload,
+        },
     }
-    slots::copy_bytes(part, &mut payload);
-    Read { number, payload }
 }
 
 // Refuses by 1 (trailer), then 10 (the check failed; the place is answered).
 pub fn paneglove_full_check(s: &[u8]) -> Checked
     ensures { result ≡ check_across (check_answer (checked_slice s.now)) }
 {
-    let a = checking::answer_of(survey::full_check(s));
-    Checked {
-        number: a.number,
-        place: a.place,
-    }
+    Checked::from(survey::full_check(s))
 }
 
 // Refuses by 1 (trailer), 10 (the check failed; the place is answered as the slot), then 11 (no slot is held).
 pub fn paneglove_find(s: &[u8]) -> Found
     ensures { result ≡ find_across (find_answer (found_slice s.now)) }
 {
-    let a = finding::answer_of(survey::find(s));
-    Found {
-        number: a.number,
-        slot: a.slot,
-        code: a.code,
-    }
+    Found::from(survey::find(s))
 }
 
 // Refuses by 1 (trailer), 10 (the check failed; the place is answered), then 9 unless the second buffer has exactly the table's length. The two
 // buffers must not overlap: the types say so, and only a caller in another language can break it.
+#[tactic(auto, unfolding(crate::specs::Across::copied_across))]
 pub fn paneglove_copy_outward(s: &[u8], out: &mut [u8]) -> Copied
     ensures { outcome result out.new ≡ copied_across s.now out.old }
 {
-    let copied = survey::copy_outward(s, out);
-    let a = copying::answer_of(copied);
+    let a = Checked::from(survey::copy_outward(s, out));
     Copied {
         number: a.number,
         place: a.place,
@@ -163,12 +260,9 @@ pub fn paneglove_copy_outward(s: &[u8], out: &mut [u8]) -> Copied
 
 // Refuses by 9 where the second buffer is shorter than the room, 226,637 bytes. Else the listing stands at its start, a refused table's in the
 // listing's own words, and its length is answered. The two buffers must not overlap.
+#[tactic(auto, unfolding(crate::specs::Across::listed_across))]
 pub fn paneglove_list(s: &[u8], out: &mut [u8]) -> Listed
     ensures { outcome result out.new ≡ listed_across s.now out.old }
 {
-    let a = listing::list_table(s, out);
-    Listed {
-        number: a.number,
-        length: a.length,
-    }
+    Listed::from(listing::list_table(s, out))
 }

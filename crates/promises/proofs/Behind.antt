@@ -1,5 +1,6 @@
 -- Bytes before a table change nothing: each call answers as on the table alone, and leaves those bytes before what it leaves of the table.
 -- Assumes nothing.
+use Rattle.std.specs.Prelude.{Some, Result, Ok, Err, ⊤}
 use Prim.Native.Nat.{ℕ, ◌+◌, ◌-◌, ◌≤◌}
 use mathlib.Core.Path.{◌≡◌, refl, sym, ap, ◌∙◌}
 use mathlib.Core.Bool.{Bool, true, false, not}
@@ -14,18 +15,16 @@ use Rattle.board.specs.Board.{GoodBoard, board_ok}
 use Rattle.board.specs.Layout.{table_size}
 use Rattle.board.proofs.Sizes.{board_good}
 use Rattle.trailer.specs.declared.Head.{Head}
-use Rattle.trailer.specs.declared.Headed.TheVariants.{Good}
 use Rattle.trailer.specs.Trailer.{fresh, trailer_of}
 use Rattle.trailer.proofs.TrailerLaws.{trailer-after}
+use Rattle.table.specs.declared.refusals.Refusal.{Refusal}
+use Rattle.table.specs.declared.refusals.Refusal.TheVariants.{Trailer, Fault}
 use Rattle.table.specs.Calls.{Outcome, outcome, after, on_table}
 use Rattle.table.proofs.CallLaws.{answered-done, answered_refused, on_table_good}
 use Rattle.router.specs.Clear.{used, clear_rows, cleared_as, cleared_slice}
 use Rattle.router.specs.TakeIn.{refusal as take_refusal, taken_in, taken_slice}
 use Rattle.router.specs.Move.{refusal as move_refusal, moved_in, moved_slice}
 use Rattle.router.specs.ReadPayload.{Reading, refusal as read_refusal, read_in, read_slice}
-use Rattle.survey.specs.declared.checking.Checked.{Checked}
-use Rattle.survey.specs.declared.finding.Found.{Found}
-use Rattle.survey.specs.declared.copying.Copied.{Copied}
 use Rattle.survey.specs.Check.{unless_fault, read_by, on_passing, checked_slice, check_answer}
 use Rattle.survey.specs.Find.{found_in, found_slice, find_answer}
 use Rattle.survey.specs.Copy.{copied_in, copied_slice, copy_answer}
@@ -49,10 +48,10 @@ after_both : {A : Type 0} (p q : List ℕ) (o : Outcome A (List ℕ)) → after 
 after_both p q o = ap (outcome o.answer) (append_assoc p q o.bytes)
 
 module _ (p t : List ℕ) (g : GoodIn t) where
-  alone : trailer_of t ≡ Good (head_in t)
+  alone : trailer_of t ≡ Some (head_in t)
   alone = good_is t g
 
-  behind : trailer_of (p ++ t) ≡ Good (head_in t)
+  behind : trailer_of (p ++ t) ≡ Some (head_in t)
   behind = trailer-after p t alone
 
   same_table : drop (length (p ++ t) - (head_in t).size) (p ++ t) ≡ drop (length t - (head_in t).size) t
@@ -80,11 +79,11 @@ module _ (p t : List ℕ) (g : GoodIn t) where
     make_move = λ slot code. on_table_behind move_refusal (λ h u. moved_in h u slot code);
     read_payload = λ slot.
         ap (λ (o : Outcome Reading (List ℕ)). outcome o.answer (p ++ t)) (on_table_behind read_refusal (λ h u. read_in h u slot));
-    full_check = ap (λ c. outcome (check_answer c) (p ++ t)) (passing_behind Checked.BadTrailer Checked.FaultAt (λ h u. Checked.Passes));
-    find = ap (λ f. outcome (find_answer f) (p ++ t)) (passing_behind Found.BadTrailer Found.FaultAt found_in);
+    full_check = ap (λ c. outcome (check_answer c) (p ++ t)) (passing_behind (Err Trailer) (λ place. Err (Fault place)) (λ h u. Ok tt));
+    find = ap (λ f. outcome (find_answer f) (p ++ t)) (passing_behind (Err Trailer) (λ place. Err (Fault place)) found_in);
     copy_outward = λ out.
-        ap (λ (o : Outcome Copied (List ℕ)). outcome (copy_answer o.answer) record { slice = p ++ t; second = o.bytes })
-        (passing_behind (outcome Copied.BadTrailer out) (λ place. outcome (Copied.FaultAt place) out) (copied_in out));
+        ap (λ (o : Outcome (Result ⊤ Refusal) (List ℕ)). outcome (copy_answer o.answer) record { slice = p ++ t; second = o.bytes })
+        (passing_behind (outcome (Err Trailer) out) (λ place. outcome (Err (Fault place)) out) (copied_in out));
   }
 
 -- ---- clear

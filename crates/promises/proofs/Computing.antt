@@ -9,6 +9,7 @@ use Rattle.slots.specs.Slots.{slot_at, with_slot}
 use Rattle.board.specs.Board.{board_ok, net_of, published_on}
 use Rattle.board.specs.Layout.{layout_of}
 use Rattle.trailer.specs.Trailer.{head_ok, trailer_of, with_taken, with_delivered, trailer_bytes, fresh}
+use Rattle.table.specs.Refusals.{number_of, place_of}
 use Rattle.table.specs.Packets.{good_at}
 use Rattle.table.specs.Queues.{room_at, empties_at}
 use Rattle.table.specs.Carriage.{vacated, carried}
@@ -37,5 +38,5 @@ unfolding rules cleared_as cleared_slice new_record took_in taken_in taken_slice
 calls = tt
 
 unfoldable pub checks : Unit {0}
-unfolding rules first_spoiled first_repeat miscount fault_in checked_in checked_slice
+unfolding rules number_of place_of first_spoiled first_repeat miscount fault_in checked_in checked_slice
 checks = tt

@@ -1,5 +1,6 @@
 -- The papers' conditions on a slice with a good trailer, and the tests that the router makes for them: each says the other.
 -- Assumes nothing.
+use Rattle.std.specs.Prelude.{Some}
 use Prim.Native.Nat.{ℕ, ◌+◌, ◌<◌, ◌≤◌}
 use mathlib.Core.Path.{◌≡◌, refl, sym, ap, ◌∙◌}
 use mathlib.Core.Logic.{◌≢◌}
@@ -12,7 +13,6 @@ use Rattle.network.specs.declared.Place.{Place}
 use Rattle.network.specs.declared.Lead.{Lead}
 use Rattle.network.specs.declared.Lead.TheVariants.{Hop, Turn, Out, NotOffered}
 use Rattle.network.specs.Net.{at}
-use Rattle.network.specs.declared.Lowest.TheVariants.{At}
 use Rattle.network.specs.Search.{is_at, number_at}
 use Rattle.network.proofs.Tests.{clash, never_true}
 use Rattle.network.proofs.SearchLaws.{at_some, some_at}
@@ -94,7 +94,7 @@ module _ (s : List ℕ) (g : GoodIn s) where
 
     module _ (v : (net_in s).valid p.node ≡ true) where
       -- the slot that the search finds is the lowest empty one
-      pub room_lowest_of : (k : ℕ) → room_at (board_in s) (table_in s) p ≡ At k → LowestOf s p k
+      pub room_lowest_of : (k : ℕ) → room_at (board_in s) (table_in s) p ≡ Some k → LowestOf s p k
       room_lowest_of k e =
           let low = room_lowest (board_in s) (table_in s) p k e in
           let inside = room_within (board_in s) (table_in s) p k e g.ranges v in

@@ -11,10 +11,9 @@ use Rattle.network.specs.Net.{delivery}
 use Rattle.network.specs.Packet.{Delivery}
 use Rattle.network.specs.Run.{Answer, moved, delivered, Trace, after, trace}
 use Rattle.table.specs.Packets.{packet_of}
-use Rattle.router.specs.declared.moving.Moved.{Moved}
-use Rattle.router.specs.declared.taking.Taken.{Taken}
 use Rattle.table.specs.Calls.{Outcome}
-use Rattle.router.specs.Move.{moved_slice}
+use Rattle.router.specs.Move.{MoveAnswer, moved_slice}
+use Rattle.router.specs.TakeIn.{TakeAnswer}
 use Rattle.calls.specs.Slices.{Bytes, place_in}
 use Rattle.calls.specs.Router.{ours}
 use Rattle.calls.specs.Calls.{Look, reads, checks, finds, copies, Call, clears, takes, moves, looks, Given, looked_by, left_by, given_by, moves_by, course, MovesAlone}
@@ -66,7 +65,7 @@ passed_by s c cs left told counts e t =
 
 -- a proposed move, by whether it is accepted and whether its code is delivery's
 module _ (s : List ℕ) (b : Bytes s) (slot code : ℕ) (cs : List Call) (t : Traced (moved_slice s slot code).bytes cs) where
-  abbrev o : Outcome Moved (List ℕ)
+  abbrev o : Outcome MoveAnswer (List ℕ)
   o = moved_slice s slot code
 
   abbrev d : Delivery
@@ -84,7 +83,7 @@ module _ (s : List ℕ) (b : Bytes s) (slot code : ℕ) (cs : List Call) (t : Tr
   moved_on true false e f =
       joined s (moves slot code) cs (then (moved o.bytes)) [] 1 (rw (e, f)) refl refl (omega arith) (rw (e, f)) (rw e) t
   moved_on false z e f =
-      let same = ap (λ (u : Outcome Moved (List ℕ)). u.bytes) (move_refused s slot code (eqb-false _ 0 e)) in
+      let same = ap (λ (u : Outcome MoveAnswer (List ℕ)). u.bytes) (move_refused s slot code (eqb-false _ 0 e)) in
       passed_by s (moves slot code) cs same (none z f) (rw e) (rw e) (subst (λ (u : List ℕ). Traced u cs) same t)
     where
       none : (z : Bool) → eqb code delivery ≡ z → given_by ours s (moves slot code) ≡ []
@@ -104,7 +103,7 @@ traced (clears k ∷ cs) s b q =
     let same = ap (λ (o : Outcome ℕ (List ℕ)). o.bytes) (clear_refused s k q.0) in
     passed_by s (clears k) cs same refl refl refl (traced cs s b (rw same at q.1))
 traced (takes source destination payload ∷ cs) s b q =
-    let same = ap (λ (o : Outcome Taken (List ℕ)). o.bytes) (take_refused s source destination payload q.0) in
+    let same = ap (λ (o : Outcome TakeAnswer (List ℕ)). o.bytes) (take_refused s source destination payload q.0) in
     passed_by s (takes source destination payload) cs same refl refl refl (traced cs s b (rw same at q.1))
 traced (moves slot code ∷ cs) s b q =
     moved_on s b slot code cs (traced cs (moved_slice s slot code).bytes (whole s b slot code).0 q.1)

@@ -5,9 +5,8 @@ use mathlib.Core.Path.{refl}
 use mathlib.Core.List.{List}
 use Rattle.network.specs.declared.Lead.{Lead}
 use Rattle.network.specs.declared.Lead.TheVariants.{Hop, Turn, Out, NotOffered}
-use Rattle.router.specs.declared.moving.Moved.{Moved}
 use Rattle.table.specs.Calls.{Outcome}
-use Rattle.router.specs.Move.{moved_slice}
+use Rattle.router.specs.Move.{MoveAnswer, moved_slice}
 use Rattle.promises.specs.Conditions.{EmptyAt, lead_in}
 use Rattle.calls.specs.Router.{ours}
 use Rattle.promises.specs.Demand1.{Demand1}
@@ -18,7 +17,7 @@ use Rattle.promises.proofs.Surveying.{check_refuses, find_refuses, copy_refuses}
 use Rattle.promises.proofs.Behind.{all_behind, clear_behind}
 use Rattle.promises.proofs.Demand2.{demand_2}
 
-step_empties : (s : List ℕ) (slot : ℕ) (lead : Lead) (o : Outcome Moved (List ℕ)) → OneStep s slot lead o → EmptyAt o.bytes slot
+step_empties : (s : List ℕ) (slot : ℕ) (lead : Lead) (o : Outcome MoveAnswer (List ℕ)) → OneStep s slot lead o → EmptyAt o.bytes slot
 step_empties s slot (Hop n) o a = a.gone
 step_empties s slot (Turn k) o a = a.gone
 step_empties s slot Out o a = a.gone

@@ -1,6 +1,7 @@
 -- Demand 2 holds of the router: exactly the offered moves that give way to none and have room are accepted, each does its one step, and a copy shows no
 -- payload.
 -- Assumes nothing.
+use Rattle.std.specs.Prelude.{Result, ⊤}
 use Prim.Native.Nat.{ℕ, ◌-◌, ◌*◌, ◌≤◌}
 use mathlib.Core.Path.{◌≡◌, refl, sym, ap, subst, ◌∙◌}
 use mathlib.Core.Logic.{◌≢◌}
@@ -12,14 +13,13 @@ use Rattle.network.specs.declared.Lead.TheVariants.{NotOffered}
 use Rattle.network.proofs.Tests.{clash, never_true}
 use Rattle.board.specs.Layout.{layout_of}
 use Rattle.trailer.specs.declared.Head.{Head}
+use Rattle.table.specs.declared.refusals.Refusal.{Refusal}
 use Rattle.table.specs.Calls.{Outcome}
 use Rattle.judging.specs.Moves.{barred, lead_of}
 use Rattle.judging.proofs.NamedLaws.{targets}
 use Rattle.way.proofs.WayLaws.{stopped}
 use Rattle.judging.proofs.GrantedLaws.{Granted, due_granted, granted_due}
 use Rattle.router.specs.Move.{moved_slice}
-use Rattle.survey.specs.declared.copying.Copied.{Copied}
-use Rattle.survey.specs.declared.copying.Copied.TheVariants.{Done, BadTrailer, FaultAt, WrongLength}
 use Rattle.survey.specs.Copy.{veiled, copied_slice, copy_answer}
 use Rattle.survey.proofs.CopyLaws.{Made, copied_made}
 use Rattle.survey.proofs.ShownLaws.{length-veiled, veiled_slot, veiled_end}
@@ -30,7 +30,7 @@ use Rattle.promises.specs.Conditions.{lead_in}
 use Rattle.promises.specs.Demand2.{GoodPacket, Offered, OneStep, Shows, Demand2}
 use Rattle.promises.proofs.Reading.{head_is, table_is, good_in, good_is}
 use Rattle.promises.proofs.Steps.{offered_known}
-use Rattle.promises.proofs.Checked.{taken_small}
+use Rattle.promises.proofs.Checked.{taken_small, number_passes}
 use Rattle.promises.proofs.Conditions.{lead_is, held_zeros, zeros_held, good_test, test_good, not_barred, room_free, free_room, way_given, given_way}
 use Rattle.promises.proofs.Tables.{slots_long, table-long, ends_alike}
 use Rattle.promises.proofs.OneStep.{accepted_trailer, number_is, it_steps}
@@ -79,14 +79,8 @@ one_step s b k code z =
 -- ---- the copy for outsiders
 
 module _ (s out : List ℕ) (z : (copy_answer (copied_slice s out).answer).number ≡ 0) where
-  is_done : (c : Copied) → (copy_answer c).number ≡ 0 → c ≡ Done
-  is_done Done e = refl
-  is_done BadTrailer e = absurd (omega arith)
-  is_done (FaultAt place) e = absurd (omega arith)
-  is_done WrongLength e = absurd (omega arith)
-
   made : Made s out
-  made = copied_made s out (is_done (copied_slice s out).answer z)
+  made = copied_made s out (number_passes (copied_slice s out).answer z)
 
   copied-trailer : GoodIn s
   copied-trailer = good_in s made.head
@@ -123,7 +117,7 @@ demand_2 = record {
   step = one_step;
   copy = λ s out b z. shows s out z;
   secret = λ s u out a. (
-    ap (λ (o : Outcome Copied (List ℕ)). copy_answer o.answer) (secret a out),
-    ap (λ (o : Outcome Copied (List ℕ)). o.bytes) (secret a out),
+    ap (λ (o : Outcome (Result ⊤ Refusal) (List ℕ)). copy_answer o.answer) (secret a out),
+    ap (λ (o : Outcome (Result ⊤ Refusal) (List ℕ)). o.bytes) (secret a out),
   );
 }

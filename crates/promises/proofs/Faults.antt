@@ -1,5 +1,6 @@
 -- The full check's first fault is document 01's: the place that the searches find is a fault, and where they find nothing there is none.
 -- Assumes nothing.
+use Rattle.std.specs.Prelude.{Option, Some, None}
 use Prim.Native.Nat.{ℕ, zero, suc, ◌-◌, ◌≤◌, ◌<◌}
 use mathlib.Core.Path.{◌≡◌, refl, sym, ap, ◌∙◌}
 use mathlib.Core.Logic.{◌⊎◌, inl, inr}
@@ -8,8 +9,6 @@ use mathlib.Core.List.{List}
 use native.Mathlib.Omega.{arith}
 use lib.Dec.{eqb}
 use borrow.Author.Tests.{not-true, eqb-true, eqb-false}
-use Rattle.network.specs.declared.Lowest.{Lowest}
-use Rattle.network.specs.declared.Lowest.TheVariants.{At, Nowhere}
 use Rattle.network.proofs.Tests.{clash, both_true, and_both}
 use Rattle.network.proofs.SearchLaws.{at_lowest, nowhere_none}
 use Rattle.table.specs.Packets.{good_at}
@@ -35,9 +34,9 @@ serial_found t serial (suc n) e = go (held_at t n) (eqb (serial_at t n) serial) 
     go false b p q f rest = let r = rest f in (r.0, omega (arith, r.1), r.2, r.3)
 
 -- the first of two searches that finds something
-first_or : {p : ℕ} (r next : Lowest) → or_else r next ≡ At p → (r ≡ At p) ⊎ ((r ≡ Nowhere) × (next ≡ At p))
-first_or (At k) next e = inl e
-first_or Nowhere next e = inr (refl, e)
+first_or : {p : ℕ} (r next : Option ℕ) → or_else r next ≡ Some p → (r ≡ Some p) ⊎ ((r ≡ None) × (next ≡ Some p))
+first_or (Some k) next e = inl e
+first_or None next e = inr (refl, e)
 
 module _ (s : List ℕ) (g : GoodIn s) where
   -- ---- each test of the check, and its condition
@@ -84,45 +83,45 @@ module _ (s : List ℕ) (g : GoodIn s) where
 
   -- ---- each search, and what it finds or rules out
 
-  all_good : first_spoiled (head_in s) (table_in s) ≡ Nowhere → NoneBelow (SpoiledAt s) (slots_in s)
+  all_good : first_spoiled (head_in s) (table_in s) ≡ None → NoneBelow (SpoiledAt s) (slots_in s)
   unfolding first_spoiled
   all_good e =
       let q = nowhere_none (spoiled_at (head_in s) (table_in s)) 0 (slots_in s) e in
       none_spoiled (slots_in s) (omega arith) (λ j l. q.lacks j (omega arith) (omega arith))
 
-  all_fresh : first_repeat (head_in s) (table_in s) ≡ Nowhere → NoneBelow (RepeatsAt s) (slots_in s)
+  all_fresh : first_repeat (head_in s) (table_in s) ≡ None → NoneBelow (RepeatsAt s) (slots_in s)
   unfolding first_repeat
   all_fresh e =
       let q = nowhere_none (repeats_at (table_in s)) 0 (slots_in s) e in
       none_repeats (slots_in s) (omega arith) (λ j l. q.lacks j (omega arith) (omega arith))
 
   module _ (p : ℕ) where
-    spoiled_fault : first_spoiled (head_in s) (table_in s) ≡ At p → FaultAt s p
+    spoiled_fault : first_spoiled (head_in s) (table_in s) ≡ Some p → FaultAt s p
     unfolding first_spoiled
     spoiled_fault e =
         let q = at_lowest (spoiled_at (head_in s) (table_in s)) 0 (slots_in s) p e in
         let l : p < slots_in s = omega (arith, q.below) in
         spoiled l (test_spoiled p q.has) (none_spoiled p (omega arith) (λ j m. q.least j (omega arith) m))
 
-    repeated_fault : NoneBelow (SpoiledAt s) (slots_in s) → first_repeat (head_in s) (table_in s) ≡ At p → FaultAt s p
+    repeated_fault : NoneBelow (SpoiledAt s) (slots_in s) → first_repeat (head_in s) (table_in s) ≡ Some p → FaultAt s p
     unfolding first_repeat
     repeated_fault good e =
         let q = at_lowest (repeats_at (table_in s)) 0 (slots_in s) p e in
         let l : p < slots_in s = omega (arith, q.below) in
         repeated good l (test_repeats p q.has) (none_repeats p (omega arith) (λ j m. q.least j (omega arith) m))
 
-    miscount-fault : NoneBelow (SpoiledAt s) (slots_in s) → NoneBelow (RepeatsAt s) (slots_in s) → miscount (head_in s) (table_in s) ≡ At p → FaultAt s p
+    miscount-fault : NoneBelow (SpoiledAt s) (slots_in s) → NoneBelow (RepeatsAt s) (slots_in s) → miscount (head_in s) (table_in s) ≡ Some p → FaultAt s p
     unfolding miscount
     miscount-fault good fresh e = go (eqb ((head_in s).taken - (head_in s).delivered) (held_below (table_in s) (slots_in s))) refl e
       where
-        go : (b : Bool) → eqb ((head_in s).taken - (head_in s).delivered) (held_below (table_in s) (slots_in s)) ≡ b → cond b Nowhere (At (slots_in s)) ≡ At p
+        go : (b : Bool) → eqb ((head_in s).taken - (head_in s).delivered) (held_below (table_in s) (slots_in s)) ≡ b → cond b None (Some (slots_in s)) ≡ Some p
             → FaultAt s p
         go true f q = clash cc
         go false f q = miscounted good fresh (λ c. eqb-false _ _ f (c ∙ held_is)) cc
 
     -- ---- the first fault
 
-    pub fault_there : fault_in (head_in s) (table_in s) ≡ At p → FaultAt s p
+    pub fault_there : fault_in (head_in s) (table_in s) ≡ Some p → FaultAt s p
     unfolding fault_in
     fault_there e = elim (first_or (first_spoiled (head_in s) (table_in s)) _ e) [
       | inl a ↦ spoiled_fault a
@@ -135,7 +134,7 @@ module _ (s : List ℕ) (g : GoodIn s) where
       ]
     ]
 
-    pub no_fault : fault_in (head_in s) (table_in s) ≡ Nowhere → FaultAt s p → ⊥
+    pub no_fault : fault_in (head_in s) (table_in s) ≡ None → FaultAt s p → ⊥
     no_fault e (spoiled l h u) = let q = (fault_none (head_in s) (table_in s) e).sound in not_both _ (spoiled_test p l h) (q.lacks p (omega arith) (omega arith))
     no_fault e (repeated u l h v) = let q = (fault_none (head_in s) (table_in s) e).single in not_both _ (repeats_test p l h) (q.lacks p (omega arith) (omega arith))
     no_fault e (miscounted u v m w) = m ((fault_none (head_in s) (table_in s) e).counted ∙ sym held_is)

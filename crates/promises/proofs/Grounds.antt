@@ -1,6 +1,7 @@
 -- A list of refusals' numbers with their tests goes with the paper's conditions: then the first that is due is that of the first condition that
 -- holds.
 -- Assumes nothing.
+use Rattle.std.specs.Prelude.{Option, Some, None}
 use Prim.Native.Nat.{ℕ}
 use mathlib.Core.Path.{◌≡◌, refl, sym, ap, subst, ◌∙◌}
 use mathlib.Core.Logic.{inl, inr, ◌↔◌}
@@ -8,8 +9,6 @@ use mathlib.Core.Bool.{Bool, true, false, not, cond}
 use mathlib.Core.List.{List, [], ◌∷◌}
 use Rattle.network.proofs.Tests.{clash}
 use Rattle.trailer.specs.declared.Head.{Head}
-use Rattle.trailer.specs.declared.Headed.{Headed}
-use Rattle.trailer.specs.declared.Headed.TheVariants.{Good, Bad}
 use Rattle.trailer.specs.Trailer.{trailer_of}
 use Rattle.table.specs.Refusals.{Row, first_due, trailer_not_good}
 use Rattle.table.specs.Calls.{Outcome, answered, on_table}
@@ -90,9 +89,9 @@ module _ {A : Type 0} (number : A → ℕ) (refusal : ℕ → A) (named : (n : �
   unfolding table_in
   first_on_table s f rest good = go (trailer_of s) refl
     where
-      go : (t : Headed) → trailer_of s ≡ t → First (ground 1 (GoodIn s → ⊥) rest) (number (on_table s refusal f).answer)
-      go Bad e = inl (bad_in s e, ap of (on_table_bad s refusal f e) ∙ named trailer_not_good)
-      go (Good h) e =
+      go : (t : Option Head) → trailer_of s ≡ t → First (ground 1 (GoodIn s → ⊥) rest) (number (on_table s refusal f).answer)
+      go None e = inl (bad_in s e, ap of (on_table_bad s refusal f e) ∙ named trailer_not_good)
+      go (Some h) e =
           let g = good_in s e in
           inr (λ u. u g, subst (First rest) (sym (ap of (on_table_good s refusal f (head_in s) (good_is s g)))) (good g))
 

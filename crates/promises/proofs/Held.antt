@@ -17,9 +17,9 @@ use Rattle.network.proofs.Tests.{cond_true, cond_false}
 use Rattle.slots.specs.Slots.{zeros}
 use Rattle.table.specs.Carriage.{hop}
 use Rattle.table.proofs.PacketLaws.{mark_not_zero}
-use Rattle.router.specs.declared.moving.Moved.{Moved}
-use Rattle.router.specs.declared.taking.Taken.{Taken}
 use Rattle.table.specs.Calls.{Outcome}
+use Rattle.router.specs.Move.{MoveAnswer}
+use Rattle.router.specs.TakeIn.{TakeAnswer}
 use Rattle.calls.specs.Slices.{head_in, GoodIn, net_in, slots_in, slot_in}
 use Rattle.promises.specs.Conditions.{EmptyAt, HeldAt, NothingHeld}
 use Rattle.promises.specs.Demand2.{GoodPacket, Goes, Leaves}
@@ -64,7 +64,7 @@ module _ (s : List ℕ) (g : GoodIn s) where
     over : {l : List (List ℕ)} → Permᴰ (collect (record_at u) (slots_in s)) l → Permᴰ (records_in u) l
     over {l} d = subst (λ (n : ℕ). Permᴰ (collect (record_at u) n) l) (sym same) d
 
-  module _ (source destination : ℕ) (payload : List ℕ) (o : Outcome Taken (List ℕ)) (same : slots_in o.bytes ≡ slots_in s)
+  module _ (source destination : ℕ) (payload : List ℕ) (o : Outcome TakeAnswer (List ℕ)) (same : slots_in o.bytes ≡ slots_in s)
       (e : Enters s source destination payload o) where
     pub entered_records : Permᴰ (records_in o.bytes) (new_packet source destination (head_in s).taken payload ∷ records_in s)
     entered_records =
@@ -74,9 +74,9 @@ module _ (s : List ℕ) (g : GoodIn s) where
 
     pub entered_bounds : net_in o.bytes ≡ net_in s → Permᴰ (bounds_in o.bytes) (bound_for (net_in s) source destination o.answer.serial payload ∷ bounds_in s)
     entered_bounds net =
-        rw (bounds_are o.bytes, bounds_are s, ap (λ (a : Taken). a.serial) e.answer, net) (map-perm (bound_of (net_in s)) entered_records)
+        rw (bounds_are o.bytes, bounds_are s, ap (λ (a : TakeAnswer). a.serial) e.answer, net) (map-perm (bound_of (net_in s)) entered_records)
 
-  module _ (slot : ℕ) (p : GoodPacket s slot) (o : Outcome Moved (List ℕ)) (same : slots_in o.bytes ≡ slots_in s) where
+  module _ (slot : ℕ) (p : GoodPacket s slot) (o : Outcome MoveAnswer (List ℕ)) (same : slots_in o.bytes ≡ slots_in s) where
     pub left_records : Leaves s slot o → Permᴰ (records_in s) (slot_in s slot ∷ records_in o.bytes)
     left_records e =
         subst (λ (n : ℕ). Permᴰ (records_in s) (slot_in s slot ∷ collect (record_at o.bytes) n)) (sym same)

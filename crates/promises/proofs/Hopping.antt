@@ -1,6 +1,7 @@
 -- Hops are steps: as many are recorded by the serial of each packet handed out or held as its record says. An accepted taking in and a move of our
 -- router keep it so.
 -- Assumes nothing.
+use Rattle.std.specs.Prelude.{Ok}
 use Prim.Native.Nat.{ℕ, suc, ◌+◌, ◌<◌, ◌^◌}
 use mathlib.Core.Path.{◌≡◌, refl, sym, ap, ◌∙◌}
 use mathlib.Core.Bool.{Bool, true, false, cond, ◌&&◌}
@@ -29,10 +30,8 @@ use Rattle.table.specs.Carriage.{hop}
 use Rattle.table.proofs.PacketLaws.{packet_hop}
 use Rattle.table.specs.Calls.{Outcome}
 use Rattle.judging.specs.Moves.{barred, lead_of}
-use Rattle.router.specs.declared.moving.Moved.{Moved}
-use Rattle.router.specs.declared.taking.Taken.{Taken}
-use Rattle.router.specs.Move.{moved_slice}
-use Rattle.survey.specs.declared.checking.Checked.TheVariants.{Passes}
+use Rattle.router.specs.Move.{MoveAnswer, moved_slice}
+use Rattle.router.specs.TakeIn.{TakeAnswer}
 use Rattle.survey.specs.Check.{checked_slice}
 use Rattle.calls.specs.Slices.{Bytes, head_in, board_in, table_in, GoodIn, slots_in, slot_in, place_in}
 use Rattle.calls.specs.Router.{ours}
@@ -64,7 +63,7 @@ new_serial : (source destination serial : ℕ) (payload : List ℕ) → serial <
 unfolding bytes32
 new_serial source destination serial payload l = digits serial l
 
-module _ (s : List ℕ) (good : GoodIn s) (small : (head_in s).taken < 2 ^ 32) (source destination : ℕ) (payload : List ℕ) (o : Outcome Taken (List ℕ))
+module _ (s : List ℕ) (good : GoodIn s) (small : (head_in s).taken < 2 ^ 32) (source destination : ℕ) (payload : List ℕ) (o : Outcome TakeAnswer (List ℕ))
     (same : slots_in o.bytes ≡ slots_in s) (e : Enters s source destination payload o) (given : List Given) (hopped : List ℕ) where
   pub taking_recorded : Recorded (head_in s).taken hopped (packets given ++ records_in s)
       → Recorded (suc (head_in s).taken) hopped (packets given ++ records_in o.bytes)
@@ -74,9 +73,9 @@ module _ (s : List ℕ) (good : GoodIn s) (small : (head_in s).taken < 2 ^ 32) (
 
 -- ---- a move
 
-module _ (s : List ℕ) (b : Bytes s) (c : checked_slice s ≡ Passes) (slot code : ℕ) (given : List Given) (hopped : List ℕ)
+module _ (s : List ℕ) (b : Bytes s) (c : checked_slice s ≡ Ok tt) (slot code : ℕ) (given : List Given) (hopped : List ℕ)
     (h : Recorded (head_in s).taken hopped (packets given ++ records_in s)) where
-  abbrev o : Outcome Moved (List ℕ)
+  abbrev o : Outcome MoveAnswer (List ℕ)
   o = moved_slice s slot code
 
   abbrev v : List ℕ
@@ -132,7 +131,7 @@ module _ (s : List ℕ) (b : Bytes s) (c : checked_slice s ≡ Passes) (slot cod
     by_lead g is (Hop n) f e false w = has_hopped _ e
     by_lead g is (Turn k) f e true w = let q = leads_out w (Turn k) f refl in clash cc
     by_lead g is (Turn k) f e false w = has_turned _ e
-    by_lead g is Out f e true w = has_left g (is ∙ ap (λ (a : Moved). a.packet) e.answer) e
+    by_lead g is Out f e true w = has_left g (is ∙ ap (λ (a : MoveAnswer). a.packet) e.answer) e
     by_lead g is Out f e false w = absurd (eqb-false _ _ w ((net_laws (board_in s)).out_code _ _ code (sym (lead_is s slot code) ∙ f)))
     by_lead g is NotOffered f e a w = absurd e
 
@@ -149,5 +148,5 @@ module _ (s : List ℕ) (b : Bytes s) (c : checked_slice s ≡ Passes) (slot cod
       go true a f w =
           let z = eqb-true _ _ f in
           by_lead (demand_2.only s b slot code z).0 g refl (lead_in s slot code) refl (demand_2.step s b slot code z) a w
-      go false true f w = same (ap (λ (q : Outcome Moved (List ℕ)). q.bytes) (move_refused s slot code (eqb-false _ _ f)))
-      go false false f w = same (ap (λ (q : Outcome Moved (List ℕ)). q.bytes) (move_refused s slot code (eqb-false _ _ f)))
+      go false true f w = same (ap (λ (q : Outcome MoveAnswer (List ℕ)). q.bytes) (move_refused s slot code (eqb-false _ _ f)))
+      go false false f w = same (ap (λ (q : Outcome MoveAnswer (List ℕ)). q.bytes) (move_refused s slot code (eqb-false _ _ f)))

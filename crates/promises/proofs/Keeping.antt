@@ -1,5 +1,6 @@
 -- Each call of our router keeps what the history says of its ledger, and an accepted clear begins so.
 -- Assumes nothing.
+use Rattle.std.specs.Prelude.{Ok}
 use Prim.Native.Nat.{ℕ, suc, ◌+◌, ◌<◌}
 use mathlib.Core.Path.{◌≡◌, refl, sym, ap, subst, ◌∙◌}
 use mathlib.Core.Bool.{Bool, true, false, cond}
@@ -19,10 +20,8 @@ use Rattle.trailer.specs.declared.Head.{Head}
 use Rattle.trailer.proofs.CountLaws.{taking}
 use Rattle.table.specs.Packets.{packet_of}
 use Rattle.table.specs.Calls.{Outcome}
-use Rattle.router.specs.declared.taking.Taken.{Taken}
 use Rattle.router.specs.Clear.{used, cleared_slice}
-use Rattle.router.specs.TakeIn.{taken_slice}
-use Rattle.survey.specs.declared.checking.Checked.TheVariants.{Passes}
+use Rattle.router.specs.TakeIn.{TakeAnswer, taken_slice}
 use Rattle.survey.specs.Check.{check_answer, checked_slice}
 use Rattle.calls.specs.Slices.{Bytes, head_in, GoodIn, net_in, slots_in}
 use Rattle.calls.specs.Router.{ours}
@@ -50,7 +49,7 @@ Spans N g = (packet_of g.packet).hops ≡ N.distance (packet_of g.packet).source
 
 pub record Accounted (r : Ledger) : Type 0 where
   pub bytes : Bytes r.last
-  pub passes : checked_slice r.last ≡ Passes
+  pub passes : checked_slice r.last ≡ Ok tt
   pub taken : (head_in r.last).taken ≡ length r.taken
   pub same : Permᴰ r.taken (r.given ++ bounds_in r.last)
   pub spans : All (Spans (net_in r.last)) r.taken
@@ -127,7 +126,7 @@ module _ (r : Ledger) (k : Accounted r) where
       record { head = e; small = taken_small s k.bytes e; passing = passing_in s k.passes }
 
   module _ (source destination : ℕ) (payload : List ℕ) (b : Bytes payload) (l : length payload ≡ 8) where
-    abbrev o : Outcome Taken (List ℕ)
+    abbrev o : Outcome TakeAnswer (List ℕ)
     o = taken_slice s source destination payload
 
     abbrev new : Given
@@ -169,7 +168,7 @@ module _ (r : Ledger) (k : Accounted r) where
         go false e =
             let u = eqb-false _ _ e in
             quiet_kept (takes source destination payload) (b, l) u
-            (hops_same o.bytes (ap (λ (w : Outcome Taken (List ℕ)). w.bytes) (take_refused s source destination payload u)))
+            (hops_same o.bytes (ap (λ (w : Outcome TakeAnswer (List ℕ)). w.bytes) (take_refused s source destination payload u)))
 
   -- ---- any call
 

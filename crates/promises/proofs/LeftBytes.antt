@@ -15,9 +15,8 @@ use Rattle.board.specs.Layout.{layout_of, table_size}
 use Rattle.board.proofs.BoardLaws.{valid_byte}
 use Rattle.trailer.specs.Trailer.{trailer_bytes, fresh, with_taken}
 use Rattle.table.specs.Calls.{Outcome}
-use Rattle.router.specs.declared.taking.Taken.{Taken}
 use Rattle.router.specs.Clear.{used, cleared_as, cleared_slice}
-use Rattle.router.specs.TakeIn.{new_record, taken_slice}
+use Rattle.router.specs.TakeIn.{TakeAnswer, new_record, taken_slice}
 use Rattle.router.proofs.Intake.{with_packet}
 use Rattle.calls.specs.Slices.{Bytes, head_in, board_in, table_in, before_in}
 use Rattle.calls.specs.Router.{ours}
@@ -70,7 +69,7 @@ module _ (s : List ℕ) (b : Bytes s) (source destination : ℕ) (payload : List
       let to = valid_byte (board_in s) g.ranges destination t.welcome.destination_on in
       let new : Bytes v = (omega arith, (from, (to, (omega arith, serial)))) in
       let filled : List ℕ = with_slot (table_in s) t.to v in
-      subst Bytes (sym (ap (λ (o : Outcome Taken (List ℕ)). o.bytes) (all s g source destination payload l t)))
+      subst Bytes (sym (ap (λ (o : Outcome TakeAnswer (List ℕ)). o.bytes) (all s g source destination payload l t)))
       (bytes-append (before_in s) (with_packet (head_in s) (table_in s) t.to v) (bytes_take (length s - (head_in s).size) s b)
       (bytes-put filled (length filled - 12) (bytes32 ((head_in s).taken + 1))
       (bytes-with_slot (table_in s) t.to v (bytes_drop (length s - (head_in s).size) s b) new) (bytes-number ((head_in s).taken + 1))))
@@ -78,7 +77,7 @@ module _ (s : List ℕ) (b : Bytes s) (source destination : ℕ) (payload : List
   take-bytes : Bytes (taken_slice s source destination payload).bytes
   take-bytes = elim (ℕ_discrete (taken_slice s source destination payload).answer.number 0) [
     | yes z ↦ entered_bytes z
-    | no u ↦ subst Bytes (sym (ap (λ (o : Outcome Taken (List ℕ)). o.bytes) (take_refused s source destination payload u))) b
+    | no u ↦ subst Bytes (sym (ap (λ (o : Outcome TakeAnswer (List ℕ)). o.bytes) (take_refused s source destination payload u))) b
   ]
 
 -- ---- any call

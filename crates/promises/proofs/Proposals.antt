@@ -13,8 +13,7 @@ use Rattle.network.specs.Run.{Answer, unchanged, moved, delivered, Accepted}
 use Rattle.network.proofs.Tests.{clash}
 use Rattle.table.specs.Packets.{packet_of}
 use Rattle.table.specs.Calls.{Outcome}
-use Rattle.router.specs.declared.moving.Moved.{Moved}
-use Rattle.router.specs.Move.{moved_slice}
+use Rattle.router.specs.Move.{MoveAnswer, moved_slice}
 use Rattle.calls.specs.Slices.{place_in}
 
 -- ---- the machine that the large theorem speaks of: a slice, under proposed moves
@@ -24,7 +23,7 @@ pub record Proposal : Type 0 where
   pub code : ℕ
 
 -- number 0 is acceptance; a delivery is an accepted move by its code, and its record, all 16 bytes, is in the answer
-abbrev answer_by : List ℕ → Proposal → Outcome Moved (List ℕ) → Answer (List ℕ)
+abbrev answer_by : List ℕ → Proposal → Outcome MoveAnswer (List ℕ) → Answer (List ℕ)
 answer_by s c o =
     cond (eqb o.answer.number 0)
     (cond (eqb c.code delivery)
@@ -37,7 +36,7 @@ answering s c = answer_by s c (moved_slice s c.slot c.code)
 
 -- ---- what an answer tells
 
-module _ (s : List ℕ) (c : Proposal) (o : Outcome Moved (List ℕ)) where
+module _ (s : List ℕ) (c : Proposal) (o : Outcome MoveAnswer (List ℕ)) where
   pub told_moved : (u : List ℕ) → answer_by s c o ≡ moved u → (o.answer.number ≡ 0) × (c.code ≢ delivery) × (o.bytes ≡ u)
   told_moved u e = go (eqb o.answer.number 0) (eqb c.code delivery) refl refl e
     where

@@ -14,9 +14,8 @@ use Rattle.board.specs.declared.Board.{Board}
 use Rattle.board.specs.Layout.{table_size}
 use Rattle.board.proofs.Sizes.{board_good, good_board}
 use Rattle.judging.specs.Takings.{take_rows}
-use Rattle.router.specs.declared.taking.Taken.{Taken}
 use Rattle.router.specs.Clear.{used, clear_rows, cleared_as, cleared_slice}
-use Rattle.router.specs.TakeIn.{refusal as take_refusal, took_in, taken_in, taken_slice}
+use Rattle.router.specs.TakeIn.{TakeAnswer, refusal as take_refusal, took_in, taken_in, taken_slice}
 use Rattle.calls.specs.Slices.{head_in, table_in, GoodIn, net_in}
 use Rattle.promises.specs.Conditions.{HasEmpty}
 use Rattle.promises.specs.Demand1.{Grounds, end, ground, First, clear_grounds, take_grounds, Refuses, NothingTaken}
@@ -94,7 +93,7 @@ module _ (s : List ℕ) (source destination : ℕ) where
         (λ g. first-joined 2 _ counted inl inr on_both (take_each g))
 
     pub take_refuses :
-        Refuses (λ (a : Taken). a.number) NothingTaken (take_grounds s source destination) s
+        Refuses (λ (a : TakeAnswer). a.number) NothingTaken (take_grounds s source destination) s
         (taken_slice s source destination payload)
     take_refuses =
         refuses (λ a. a.number) take_refusal (λ n. refl) NothingTaken (λ n. (refl, refl, refl)) _ s _

@@ -1,5 +1,6 @@
 -- Two outcomes that are told the same are the same: of a refusal, a move, a taking in, a clear and a copy.
 -- Assumes nothing.
+use Rattle.std.specs.Prelude.{Option, Some, None}
 use Prim.Native.Nat.{ℕ, ◌+◌, ◌-◌, ◌*◌, ◌<◌, ◌≤◌}
 use mathlib.Core.Path.{◌≡◌, refl, sym, ap, subst, ◌∙◌}
 use mathlib.Core.Logic.{◌≢◌, ◌⊎◌, inl, inr}
@@ -19,13 +20,11 @@ use Rattle.board.specs.declared.Board.{Board}
 use Rattle.board.specs.Layout.{layout_of, table_size}
 use Rattle.board.proofs.BoardLaws.{layout_laws, one_waiting}
 use Rattle.trailer.specs.declared.Head.{Head}
-use Rattle.trailer.specs.declared.Headed.{Headed}
-use Rattle.trailer.specs.declared.Headed.TheVariants.{Good, Bad}
 use Rattle.trailer.specs.Trailer.{last16, trailer_of}
 use Rattle.trailer.proofs.TrailerTold.{length_last, bytes_last, last_told, trailer_told}
 use Rattle.table.specs.Calls.{Outcome}
-use Rattle.router.specs.declared.moving.Moved.{Moved}
-use Rattle.router.specs.declared.taking.Taken.{Taken}
+use Rattle.router.specs.Move.{MoveAnswer}
+use Rattle.router.specs.TakeIn.{TakeAnswer}
 use Rattle.calls.specs.Slices.{Bytes, head_in, board_in, GoodIn, layout_in, slots_in, slot_in, place_in}
 use Rattle.promises.specs.Conditions.{SpoiledAt, RepeatsAt, NoneBelow, FaultAt, spoiled, repeated, miscounted, EmptyOf, room_left}
 use Rattle.promises.specs.Demand1.{Grounds, Refuses, Placed}
@@ -56,9 +55,9 @@ module _ {A B : Type 0} (number : A → ℕ) (Told : A → Type 0) (g : Grounds)
 pub good_stable : (s : List ℕ) → ((GoodIn s → ⊥) → ⊥) → GoodIn s
 good_stable s n = go (trailer_of s) refl
   where
-    go : (t : Headed) → trailer_of s ≡ t → GoodIn s
-    go Bad e = absurd (n (bad_in s e))
-    go (Good h) e = good_in s e
+    go : (t : Option Head) → trailer_of s ≡ t → GoodIn s
+    go None e = absurd (n (bad_in s e))
+    go (Some h) e = good_in s e
 
 -- the least with a property is one
 least_one : (P : ℕ → Type 0) (p q : ℕ) → P p → P q → NoneBelow P p → NoneBelow P q → p ≡ q
@@ -90,7 +89,7 @@ placed_one s n m p q e a c = elim (ℕ_discrete n 10) [
 
 -- ---- a move
 
-module _ (s : List ℕ) (g : GoodIn s) (slot : ℕ) (o w : Outcome Moved (List ℕ)) where
+module _ (s : List ℕ) (g : GoodIn s) (slot : ℕ) (o w : Outcome MoveAnswer (List ℕ)) where
   goes_same : (target : Place) (more : ℕ) → Goes s slot target more o → Goes s slot target more w → o ≡ w
   goes_same target more a c =
       let one : a.to ≡ c.to = omega (arith, a.lowest.least c.to c.lowest.one, c.lowest.least a.to a.lowest.one) in
@@ -141,7 +140,7 @@ waiting_one s g n i j a c =
     let q = lies j c in
     omega (arith, one_waiting (board_in s), p.1, p.2, q.1, q.2)
 
-module _ (s : List ℕ) (g : GoodIn s) (source destination : ℕ) (payload : List ℕ) (o w : Outcome Taken (List ℕ)) where
+module _ (s : List ℕ) (g : GoodIn s) (source destination : ℕ) (payload : List ℕ) (o w : Outcome TakeAnswer (List ℕ)) where
   pub enters_same : Bytes o.bytes → Bytes w.bytes → Enters s source destination payload o → Enters s source destination payload w → o ≡ w
   enters_same b d a c =
       let one : a.to ≡ c.to = waiting_one s g source a.to c.to a.waiting c.waiting in

@@ -1,5 +1,6 @@
 -- The router's moves on a slice are a table machine's, so demand 3 holds of slices under proposed moves.
 -- Assumes nothing.
+use Rattle.std.specs.Prelude.{Some}
 use Prim.Native.Nat.{ℕ, ◌+◌, ◌-◌, ◌<◌, ◌^◌}
 use mathlib.Core.Path.{◌≡◌, refl, sym, ap, ◌∙◌}
 use mathlib.Core.Logic.{◌≢◌, ◌⊎◌, inl, inr}
@@ -27,7 +28,6 @@ use Rattle.board.specs.Board.{net_of}
 use Rattle.board.specs.Layout.{layout_of}
 use Rattle.board.proofs.BoardLaws.{net_laws, layout_laws}
 use Rattle.trailer.specs.declared.Head.{Head}
-use Rattle.trailer.specs.declared.Headed.TheVariants.{Good}
 use Rattle.trailer.specs.Trailer.{trailer_of, with_delivered}
 use Rattle.trailer.proofs.TrailerLaws.{trailer-after, trailer-table, trailer_sized, length-table}
 use Rattle.trailer.proofs.CountLaws.{delivering}
@@ -38,8 +38,7 @@ use Rattle.table.proofs.PacketLaws.{slot_says}
 use Rattle.table.proofs.CallLaws.{on_table_good}
 use Rattle.judging.specs.Moves.{barred, lead_of, move_due}
 use Rattle.judging.proofs.GrantedLaws.{due_granted}
-use Rattle.router.specs.declared.moving.Moved.{Moved}
-use Rattle.router.specs.Move.{refusal, moved_in, moved_slice}
+use Rattle.router.specs.Move.{MoveAnswer, refusal, moved_in, moved_slice}
 use Rattle.router.proofs.MoveLaws.{moved_number}
 use Rattle.router.proofs.Carrying.{Carries, hop_carries, turn_carries}
 use Rattle.router.proofs.Handing.{Hands, out_hands}
@@ -49,15 +48,15 @@ use Rattle.promises.proofs.Steps.{open_accepted}
 use Rattle.promises.proofs.Proposals.{Proposal, answering, told_moved, told_delivered, accepted_by_number}
 
 -- a table behind any bytes is seen as it is
-pub see-after : (p u : List ℕ) (h : Head) → trailer_of u ≡ Good h → length u ≡ h.size → see (p ++ u) ≡ view_of h u
+pub see-after : (p u : List ℕ) (h : Head) → trailer_of u ≡ Some h → length u ≡ h.size → see (p ++ u) ≡ view_of h u
 see-after p u h e l = λ i. view_of (head-after p u e i) (table-after p u e l i)
 
-pub see_good : (s : List ℕ) (h : Head) → trailer_of s ≡ Good h → see s ≡ view_of h (drop (length s - h.size) s)
+pub see_good : (s : List ℕ) (h : Head) → trailer_of s ≡ Some h → see s ≡ view_of h (drop (length s - h.size) s)
 see_good s h e = λ i. view_of (head_is s e i) (table_is s e i)
 
 -- ---- an accepted move on a slice
 
-module _ (s : List ℕ) (h : Head) (e : trailer_of s ≡ Good h) (k code : ℕ) where
+module _ (s : List ℕ) (h : Head) (e : trailer_of s ≡ Some h) (k code : ℕ) where
   abbrev t : List ℕ
   t = drop (length s - h.size) s
 
@@ -69,13 +68,13 @@ module _ (s : List ℕ) (h : Head) (e : trailer_of s ≡ Good h) (k code : ℕ) 
   slice_is = on_table_good s refusal (λ h t. moved_in h t k code) h e
 
   pub number_is : (moved_slice s k code).answer.number ≡ move_due h t k code
-  number_is = ap (λ (o : Outcome Moved (List ℕ)). o.answer.number) slice_is ∙ moved_number h t k code
+  number_is = ap (λ (o : Outcome MoveAnswer (List ℕ)). o.answer.number) slice_is ∙ moved_number h t k code
 
   -- the slice afterwards: the same bytes before a table with head g, which shows what the step makes of the slots
   record After (g : Head) (Step : View → Type 0) : Type 0 where
     table : List ℕ
     bytes : (moved_slice s k code).bytes ≡ before ++ table
-    head : trailer_of table ≡ Good g
+    head : trailer_of table ≡ Some g
     full : length table ≡ g.size
     step : Step (view_of g table)
 
@@ -83,7 +82,7 @@ module _ (s : List ℕ) (h : Head) (e : trailer_of s ≡ Good h) (k code : ℕ) 
     carried-after : (target : Place) (more : ℕ) → Carries h t k code target more → After h (Carried (net_of h.board) (layout_of h.board) (view_of h t))
     carried-after target more c = record {
       table = carried h.board t k c.to more;
-      bytes = ap (λ (o : Outcome Moved (List ℕ)). o.bytes) (slice_is ∙ ap (after before) c.is);
+      bytes = ap (λ (o : Outcome MoveAnswer (List ℕ)). o.bytes) (slice_is ∙ ap (after before) c.is);
       head = c.head;
       full = c.full;
       step = c.seen;
@@ -103,12 +102,12 @@ module _ (s : List ℕ) (h : Head) (e : trailer_of s ≡ Good h) (k code : ℕ) 
         let all = slice_is ∙ ap (after before) c.is in (
           record {
             table = with_delivered (vacated h.board t k) (h.delivered + 1);
-            bytes = ap (λ (o : Outcome Moved (List ℕ)). o.bytes) all;
+            bytes = ap (λ (o : Outcome MoveAnswer (List ℕ)). o.bytes) all;
             head = c.head;
             full = c.full;
             step = c.seen;
           },
-          ap (λ (o : Outcome Moved (List ℕ)). o.answer.packet) all,
+          ap (λ (o : Outcome MoveAnswer (List ℕ)). o.answer.packet) all,
         )
 
 -- ---- the machine, and demand 3 of it
@@ -124,7 +123,7 @@ delivery-out b p d {c} q f = ap ((net_of b).rule p d) q ∙ by ((net_laws b).del
 
 -- slices whose table is that of h₀, but for the count of deliveries
 abbrev Fit : Head → List ℕ → Type 0
-Fit h₀ s = (d : ℕ) × (trailer_of s ≡ Good (delivering h₀ d))
+Fit h₀ s = (d : ℕ) × (trailer_of s ≡ Some (delivering h₀ d))
 
 module _ (h₀ : Head) (small : h₀.taken < 2 ^ 32) where
   module _ (s u : List ℕ) (c : Proposal) (f : Fit h₀ s) where
@@ -133,7 +132,7 @@ module _ (h₀ : Head) (small : h₀.taken < 2 ^ 32) where
 
     -- the slice afterwards as it is seen
     seen-after : (g : Head) (Step : View → Type 0) → After s h f.1 c.slot c.code g Step → (moved_slice s c.slot c.code).bytes ≡ u
-        → (trailer_of u ≡ Good g) × Step (see u)
+        → (trailer_of u ≡ Some g) × Step (see u)
     seen-after g Step r e =
         let q : before s h f.1 c.slot c.code ++ r.table ≡ u = sym r.bytes ∙ e in (
           rw (← q) (trailer-after (before s h f.1 c.slot c.code) r.table r.head),
@@ -189,15 +188,15 @@ module _ (h₀ : Head) (small : h₀.taken < 2 ^ 32) where
   }
 
 -- demand 3 of a slice under proposed moves: the table passes, and the count of packets taken in is one of four bytes
-pub slices_drain : (s : List ℕ) (h : Head) → trailer_of s ≡ Good h → h.taken < 2 ^ 32 → Passing (net_of h.board) (contents (layout_of h.board) (see s))
+pub slices_drain : (s : List ℕ) (h : Head) → trailer_of s ≡ Some h → h.taken < 2 ^ 32 → Passing (net_of h.board) (contents (layout_of h.board) (see s))
     → (calls : List Proposal) → Drains (net_of h.board) (λ u. contents (layout_of h.board) (see u)) answering s calls
 slices_drain s h e small P calls =
     table_drains (net_of h.board) (net_laws h.board) (layout_of h.board) (layout_laws h.board (trailer_sized s e).board) see (Fit h) answering
     (machine h small) s (h.delivered, e) P calls
 
 -- and it is a table still, with the head it had but for the count of deliveries
-pub slices_fit : (s : List ℕ) (h : Head) → trailer_of s ≡ Good h → h.taken < 2 ^ 32 → Passing (net_of h.board) (contents (layout_of h.board) (see s))
-    → (calls : List Proposal) → (d : ℕ) × (trailer_of (trace answering s calls).last ≡ Good (delivering h d))
+pub slices_fit : (s : List ℕ) (h : Head) → trailer_of s ≡ Some h → h.taken < 2 ^ 32 → Passing (net_of h.board) (contents (layout_of h.board) (see s))
+    → (calls : List Proposal) → (d : ℕ) × (trailer_of (trace answering s calls).last ≡ Some (delivering h d))
 slices_fit s h e small P calls =
     table_fit (net_of h.board) (net_laws h.board) (layout_of h.board) (layout_laws h.board (trailer_sized s e).board) see (Fit h) answering
     (machine h small) s (h.delivered, e) P calls

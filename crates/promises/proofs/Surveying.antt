@@ -1,5 +1,6 @@
 -- Full check, find and copy outward refuse exactly where the paper says, and name a place with 10 alone.
 -- Assumes nothing.
+use Rattle.std.specs.Prelude.{None, Result, Ok, Err, ⊤}
 use Prim.Native.Nat.{ℕ}
 use mathlib.Core.Path.{◌≡◌, refl, ap, subst}
 use mathlib.Core.Logic.{◌≢◌, inl, inr}
@@ -9,14 +10,11 @@ use native.Mathlib.Omega.{arith}
 use lib.Dec.{eqb}
 use lib.ListN.{length}
 use borrow.Author.Tests.{eqb-true, eqb-false}
-use Rattle.network.specs.declared.Lowest.TheVariants.{Nowhere}
+use Rattle.table.specs.declared.refusals.Refusal.{Refusal}
+use Rattle.table.specs.declared.refusals.Refusal.TheVariants.{Trailer, Fault, Buffer}
+use Rattle.table.specs.Refusals.{number_of, place_of}
 use Rattle.table.specs.Calls.{Outcome, outcome}
-use Rattle.survey.specs.declared.checking.Checked.{Checked}
-use Rattle.survey.specs.declared.checking.Checked.TheVariants as checked
-use Rattle.survey.specs.declared.finding.Found.{Found}
-use Rattle.survey.specs.declared.finding.Found.TheVariants as found
-use Rattle.survey.specs.declared.copying.Copied.{Copied}
-use Rattle.survey.specs.declared.copying.Copied.TheVariants as copied
+use Rattle.survey.specs.declared.finding.Move.{Move}
 use Rattle.survey.specs.Check.{PlacedAnswer, check_answer, fault_in, checked_slice}
 use Rattle.survey.specs.Find.{FindAnswer, find_answer, found_in, found_slice}
 use Rattle.survey.specs.Copy.{copy_answer, veiled, copied_in, copied_slice}
@@ -25,6 +23,8 @@ use Rattle.calls.specs.Slices.{Bytes, head_in, table_in, GoodIn, slots_in}
 use Rattle.promises.specs.Conditions.{NothingHeld}
 use Rattle.calls.specs.Router.{Buffers}
 use Rattle.promises.specs.Demand1.{end, ground, First, check_grounds, find_grounds, copy_grounds, Refuses, Placed}
+use Rattle.promises.proofs.Results.{numbered}
+use Rattle.promises.proofs.Checked.{unplaced}
 use Rattle.promises.proofs.Tables.{table-long}
 use Rattle.promises.proofs.Finding.{not_stuck, nothing_found}
 use Rattle.promises.proofs.Grounds.{exactly_first}
@@ -34,19 +34,14 @@ use Rattle.promises.proofs.Passing.{passing_is, first_passing, fault_passing}
 
 module _ (s : List ℕ) where
   check_first : First (check_grounds s end) (check_answer (checked_slice s)).number
-  unfolding checked_slice
+  unfolding checked_slice number_of place_of
   check_first =
-      first_passing s checked.BadTrailer checked.FaultAt (λ h t. checked.Passes) (λ c. (check_answer c).number) end refl (λ p. refl) (λ g e. refl)
-
-  unplaced : (c : Checked) → (check_answer c).number ≢ 10 → (check_answer c).place ≡ 0
-  unplaced checked.Passes u = refl
-  unplaced checked.BadTrailer u = refl
-  unplaced (checked.FaultAt p) u = absurd (u refl)
+      first_passing s (Err Trailer) (λ p. Err (Fault p)) (λ h t. Ok tt) (λ c. (check_answer c).number) end refl (λ p. refl) (λ g e. refl)
 
   check_told : Placed s (check_answer (checked_slice s)).number (check_answer (checked_slice s)).place
-  unfolding checked_slice
+  unfolding checked_slice number_of place_of
   check_told = (
-    fault_passing s checked.BadTrailer checked.FaultAt (λ h t. checked.Passes) (λ c. (check_answer c).number) (λ c. (check_answer c).place)
+    fault_passing s (Err Trailer) (λ p. Err (Fault p)) (λ h t. Ok tt) (λ c. (check_answer c).number) (λ c. (check_answer c).place)
         (λ e. omega arith) (λ p. refl) (λ g e. omega arith),
     unplaced (checked_slice s),
   )
@@ -62,42 +57,40 @@ module _ (s : List ℕ) where
 -- ---- find
 
 -- a refusal but 10 names no slot, and none a code
-no_move : (f : Found) → (find_answer f).number ≢ 0 → ((find_answer f).number ≢ 10 → (find_answer f).slot ≡ 0) × ((find_answer f).code ≡ 0)
-no_move (found.Move slot code) u = absurd (u refl)
-no_move found.BadTrailer u = (λ v. refl, refl)
-no_move (found.FaultAt place) u = (λ v. absurd (v refl), refl)
-no_move found.NothingHeld u = (λ v. refl, refl)
+no_move : (f : Result Move Refusal) → (find_answer f).number ≢ 0 → ((find_answer f).number ≢ 10 → (find_answer f).slot ≡ 0) × ((find_answer f).code ≡ 0)
+no_move (Ok m) u = absurd (u refl)
+no_move (Err e) u = (λ v. (numbered e v).1, refl)
 
 module _ (s : List ℕ) where
   -- of a table that passes
-  module _ (g : GoodIn s) (e : fault_in (head_in s) (table_in s) ≡ Nowhere) where
-    passes : checked_slice s ≡ checked.Passes
+  module _ (g : GoodIn s) (e : fault_in (head_in s) (table_in s) ≡ None) where
+    passes : checked_slice s ≡ Ok tt
     unfolding checked_slice
-    passes = passing_is s checked.BadTrailer checked.FaultAt (λ h t. checked.Passes) g e
+    passes = passing_is s (Err Trailer) (λ p. Err (Fault p)) (λ h t. Ok tt) g e
 
     found_is : found_slice s ≡ found_in (head_in s) (table_in s)
     unfolding found_slice
-    found_is = passing_is s found.BadTrailer found.FaultAt found_in g e
+    found_is = passing_is s (Err Trailer) (λ p. Err (Fault p)) found_in g e
 
     find_ten : (find_answer (found_in (head_in s) (table_in s))).number ≢ 10
     find_ten t = elim (not_stuck s passes) [
-      | inl z ↦ let q = ap (λ (f : Found). (find_answer f).number) found_is in omega arith
-      | inr z ↦ let q = ap (λ (f : Found). (find_answer f).number) found_is in omega arith
+      | inl z ↦ let q = ap (λ (f : Result Move Refusal). (find_answer f).number) found_is in omega arith
+      | inr z ↦ let q = ap (λ (f : Result Move Refusal). (find_answer f).number) found_is in omega arith
     ]
 
     passed_first : Bytes s → First (ground 11 (NothingHeld s) end) (find_answer (found_in (head_in s) (table_in s))).number
-    passed_first b = subst (λ (f : Found). First (ground 11 (NothingHeld s) end) (find_answer f).number) found_is (elim (not_stuck s passes) [
+    passed_first b = subst (λ (f : Result Move Refusal). First (ground 11 (NothingHeld s) end) (find_answer f).number) found_is (elim (not_stuck s passes) [
       | inl z ↦ inr (λ h. let n = (nothing_found s passes b).1 h in omega arith, z)
       | inr z ↦ inl ((nothing_found s passes b).0 z, z)
     ])
 
   find_told : (find_answer (found_slice s)).number ≢ 0 → Placed s (find_answer (found_slice s)).number (find_answer (found_slice s)).slot
       × ((find_answer (found_slice s)).code ≡ 0)
-  unfolding found_slice
+  unfolding found_slice number_of place_of
   find_told u =
       let n = no_move (found_slice s) u in (
         (
-          fault_passing s found.BadTrailer found.FaultAt found_in (λ f. (find_answer f).number) (λ f. (find_answer f).slot) (λ e. omega arith) (λ p. refl) find_ten,
+          fault_passing s (Err Trailer) (λ p. Err (Fault p)) found_in (λ f. (find_answer f).number) (λ f. (find_answer f).slot) (λ e. omega arith) (λ p. refl) find_ten,
           n.0,
         ),
         n.1,
@@ -105,9 +98,9 @@ module _ (s : List ℕ) where
 
   module _ (b : Bytes s) where
     find_first : First (find_grounds s) (find_answer (found_slice s)).number
-    unfolding found_slice
+    unfolding found_slice number_of
     find_first =
-        first_passing s found.BadTrailer found.FaultAt found_in (λ f. (find_answer f).number) (ground 11 (NothingHeld s) end) refl (λ p. refl)
+        first_passing s (Err Trailer) (λ p. Err (Fault p)) found_in (λ f. (find_answer f).number) (ground 11 (NothingHeld s) end) refl (λ p. refl)
         (λ g e. passed_first g e b)
 
     pub find_refuses : Refuses (λ (a : FindAnswer). a.number) (λ a. Placed s a.number a.slot × (a.code ≡ 0)) (find_grounds s) s
@@ -120,25 +113,19 @@ module _ (s : List ℕ) where
 
 -- ---- copy outward
 
-not_shown : (c : Copied) → (copy_answer c).number ≢ 10 → (copy_answer c).place ≡ 0
-not_shown copied.Done u = refl
-not_shown copied.BadTrailer u = refl
-not_shown (copied.FaultAt place) u = absurd (u refl)
-not_shown copied.WrongLength u = refl
-
 module _ (s out : List ℕ) where
-  abbrev number : Outcome Copied (List ℕ) → ℕ
+  abbrev number : Outcome (Result ⊤ Refusal) (List ℕ) → ℕ
   number o = (copy_answer o.answer).number
 
-  abbrev place : Outcome Copied (List ℕ) → ℕ
+  abbrev place : Outcome (Result ⊤ Refusal) (List ℕ) → ℕ
   place o = (copy_answer o.answer).place
 
   -- of a table that passes, by the second buffer's length
-  abbrev copy_by : Bool → Outcome Copied (List ℕ)
-  copy_by b = cond b (outcome copied.Done (veiled (slots_in s) (table_in s))) (outcome copied.WrongLength out)
+  abbrev copy_by : Bool → Outcome (Result ⊤ Refusal) (List ℕ)
+  copy_by b = cond b (outcome (Ok tt) (veiled (slots_in s) (table_in s))) (outcome (Err Buffer) out)
 
-  copy_ten : GoodIn s → fault_in (head_in s) (table_in s) ≡ Nowhere → number (copied_in out (head_in s) (table_in s)) ≢ 10
-  unfolding copied_in
+  copy_ten : GoodIn s → fault_in (head_in s) (table_in s) ≡ None → number (copied_in out (head_in s) (table_in s)) ≢ 10
+  unfolding copied_in number_of
   copy_ten g e = go (eqb (length out) (length (table_in s)))
     where
       go : (b : Bool) → number (copy_by b) ≢ 10
@@ -146,7 +133,7 @@ module _ (s out : List ℕ) where
       go false t = omega arith
 
   length-first : GoodIn s → First (ground 9 (length out ≢ (head_in s).size) end) (number (copied_in out (head_in s) (table_in s)))
-  unfolding copied_in
+  unfolding copied_in number_of
   length-first g = rw (table-long s g) (go (eqb (length out) (head_in s).size) refl)
     where
       go : (b : Bool) → eqb (length out) (head_in s).size ≡ b → First (ground 9 (length out ≢ (head_in s).size) end) (number (copy_by b))
@@ -154,21 +141,21 @@ module _ (s out : List ℕ) where
       go false e = inl (eqb-false _ _ e, refl)
 
   copy_first : First (copy_grounds s out) (number (copied_slice s out))
-  unfolding copied_slice
+  unfolding copied_slice number_of place_of
   copy_first =
-      first_passing s (outcome copied.BadTrailer out) (λ p. outcome (copied.FaultAt p) out) (copied_in out) number
+      first_passing s (outcome (Err Trailer) out) (λ p. outcome (Err (Fault p)) out) (copied_in out) number
       (ground 9 (length out ≢ (head_in s).size) end) refl (λ p. refl) (λ g e. length-first g)
 
   copy_told : Placed s (number (copied_slice s out)) (place (copied_slice s out))
-  unfolding copied_slice
+  unfolding copied_slice number_of place_of
   copy_told = (
-    fault_passing s (outcome copied.BadTrailer out) (λ p. outcome (copied.FaultAt p) out) (copied_in out) number place
+    fault_passing s (outcome (Err Trailer) out) (λ p. outcome (Err (Fault p)) out) (copied_in out) number place
         (λ e. omega arith) (λ p. refl) copy_ten,
-    not_shown (copied_slice s out).answer,
+    unplaced (copied_slice s out).answer,
   )
 
   copy_unwritten : number (copied_slice s out) ≢ 0 → (copied_slice s out).bytes ≡ out
-  copy_unwritten u = refused_unwritten s out (λ e. u (ap (λ (c : Copied). (copy_answer c).number) e))
+  copy_unwritten u = refused_unwritten s out (λ e. u (ap (λ (c : Result ⊤ Refusal). (copy_answer c).number) e))
 
   pub copy_refuses :
       let o = copied_slice s out in

@@ -1,5 +1,6 @@
 -- A slice and its table: the bytes before it, its slots and its trailer; and another table in place of this one.
 -- Assumes nothing.
+use Rattle.std.specs.Prelude.{Some}
 use Prim.Native.Nat.{ℕ, ◌+◌, ◌-◌, ◌*◌, ◌<◌, ◌≤◌}
 use mathlib.Core.Path.{◌≡◌, refl, sym, ap, ◌∙◌}
 use mathlib.Core.Bool.{true, ◌&&◌}
@@ -18,7 +19,6 @@ use Rattle.slots.proofs.Numbers.{length-bytes32}
 use Rattle.board.specs.Layout.{layout_of}
 use Rattle.board.proofs.BoardLaws.{layout_laws}
 use Rattle.trailer.specs.declared.Head.{Head}
-use Rattle.trailer.specs.declared.Headed.TheVariants.{Good}
 use Rattle.trailer.specs.Trailer.{trailer_of, last16}
 use Rattle.trailer.proofs.TrailerLaws.{length-last16, trailer_good, trailer-table, length-table}
 use Rattle.trailer.proofs.CountLaws.{last_put}
@@ -44,7 +44,7 @@ module _ (s : List ℕ) (g : GoodIn s) where
   unfolding table_in
   table-long = length-table s (good_is s g)
 
-  pub table-head : trailer_of (table_in s) ≡ Good (head_in s)
+  pub table-head : trailer_of (table_in s) ≡ Some (head_in s)
   unfolding table_in
   table-head = trailer-table s (good_is s g)
 
@@ -81,7 +81,7 @@ module _ (s : List ℕ) (g : GoodIn s) where
 
   -- ---- another table in place of this one, as long as it
 
-  module _ (u : List ℕ) (h : Head) (e : trailer_of u ≡ Good h) (l : length u ≡ h.size) (same : h.size ≡ (head_in s).size) where
+  module _ (u : List ℕ) (h : Head) (e : trailer_of u ≡ Some h) (l : length u ≡ h.size) (same : h.size ≡ (head_in s).size) where
     pub now : table_in (before_in s ++ u) ≡ u
     now = table-after (before_in s) u e l
 

@@ -1,5 +1,6 @@
 -- A refused call answers its number, zeros beside it, and leaves every byte as it was.
 -- Assumes nothing.
+use Rattle.std.specs.Prelude.{Option, Some, None}
 use Prim.Native.Nat.{ℕ, ◌-◌}
 use mathlib.Core.Path.{◌≡◌, refl, sym, ap, ◌∙◌}
 use mathlib.Core.Logic.{◌≢◌}
@@ -8,19 +9,15 @@ use native.Mathlib.Decide.{ℕ_discrete}
 use lib.ListN.{length, take, drop, take-append-drop}
 use Rattle.board.specs.declared.Board.{Board}
 use Rattle.trailer.specs.declared.Head.{Head}
-use Rattle.trailer.specs.declared.Headed.{Headed}
-use Rattle.trailer.specs.declared.Headed.TheVariants.{Good, Bad}
 use Rattle.trailer.specs.Trailer.{trailer_of}
 use Rattle.table.specs.Refusals.{Row, first_due, trailer_not_good}
 use Rattle.table.specs.Calls.{Outcome, outcome, answered, after, on_headed, on_table}
 use Rattle.table.proofs.CallLaws.{answered-done, answered_refused}
 use Rattle.judging.specs.Named.{slot_rows}
 use Rattle.judging.specs.Takings.{take_rows}
-use Rattle.router.specs.declared.moving.Moved.{Moved}
-use Rattle.router.specs.declared.taking.Taken.{Taken}
 use Rattle.router.specs.Clear.{used, clear_rows, cleared_as, cleared_slice}
-use Rattle.router.specs.TakeIn.{refusal as take_refusal, took_in, taken_in, taken_slice}
-use Rattle.router.specs.Move.{refusal as move_refusal, moved_in, moved_slice}
+use Rattle.router.specs.TakeIn.{TakeAnswer, refusal as take_refusal, took_in, taken_in, taken_slice}
+use Rattle.router.specs.Move.{MoveAnswer, refusal as move_refusal, moved_in, moved_slice}
 use Rattle.router.specs.ReadPayload.{Reading, refusal as read_refusal, read_in, read_slice}
 use Rattle.router.proofs.MoveLaws.{moved_refused, moved_number}
 
@@ -44,9 +41,9 @@ module _ {A : Type 0} (number : A → ℕ) (refusal : ℕ → A) (named : (n : �
       → Refused number refusal s (on_table s refusal f)
   sliced s f same = go (trailer_of s)
     where
-      go : (t : Headed) → Refused number refusal s (on_headed s refusal f t)
-      go Bad u = ap (λ (m : ℕ). outcome (refusal m) s) (sym (named trailer_not_good))
-      go (Good h) u =
+      go : (t : Option Head) → Refused number refusal s (on_headed s refusal f t)
+      go None u = ap (λ (m : ℕ). outcome (refusal m) s) (sym (named trailer_not_good))
+      go (Some h) u =
           let t = drop (length s - h.size) s in
           let before = take (length s - h.size) s in
           ap (after before) (same h t u) ∙ ap (outcome (refusal (number (f h t).answer))) (take-append-drop (length s - h.size) s)
@@ -56,18 +53,18 @@ unfolding cleared_slice cleared_as
 clear_refused s b = by_rows (λ n. n) (λ n. n) (λ n. refl) (clear_rows s (used b)) _ s refl
 
 pub take_refused : (s : List ℕ) (source destination : ℕ) (payload : List ℕ)
-    → Refused (λ (a : Taken). a.number) take_refusal s (taken_slice s source destination payload)
+    → Refused (λ (a : TakeAnswer). a.number) take_refusal s (taken_slice s source destination payload)
 unfolding taken_slice taken_in took_in
 take_refused s source destination payload =
     sliced (λ a. a.number) take_refusal (λ n. refl) s (λ h t. taken_in h t source destination payload)
     (λ h t. by_rows (λ a. a.number) take_refusal (λ n. refl) (take_rows h t source destination) _ t refl)
 
-moved_refusal : (h : Head) (t : List ℕ) (slot code : ℕ) → Refused (λ (a : Moved). a.number) move_refusal t (moved_in h t slot code)
+moved_refusal : (h : Head) (t : List ℕ) (slot code : ℕ) → Refused (λ (a : MoveAnswer). a.number) move_refusal t (moved_in h t slot code)
 moved_refusal h t slot code u =
     let m = moved_number h t slot code in
     moved_refused h t slot code refl (λ e. u (m ∙ e)) ∙ ap (λ (n : ℕ). outcome (move_refusal n) t) (sym m)
 
-pub move_refused : (s : List ℕ) (slot code : ℕ) → Refused (λ (a : Moved). a.number) move_refusal s (moved_slice s slot code)
+pub move_refused : (s : List ℕ) (slot code : ℕ) → Refused (λ (a : MoveAnswer). a.number) move_refusal s (moved_slice s slot code)
 unfolding moved_slice
 move_refused s slot code = sliced (λ a. a.number) move_refusal (λ n. refl) s (λ h t. moved_in h t slot code) (λ h t. moved_refusal h t slot code)
 

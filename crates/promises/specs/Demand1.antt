@@ -9,8 +9,8 @@ use Rattle.board.specs.declared.Board.{Board}
 use Rattle.board.specs.Board.{GoodBoard}
 use Rattle.board.specs.Layout.{table_size}
 use Rattle.table.specs.Calls.{Outcome, outcome, after}
-use Rattle.router.specs.declared.moving.Moved.{Moved}
-use Rattle.router.specs.declared.taking.Taken.{Taken}
+use Rattle.router.specs.Move.{MoveAnswer}
+use Rattle.router.specs.TakeIn.{TakeAnswer}
 use Rattle.router.specs.Clear.{used}
 use Rattle.router.specs.ReadPayload.{Reading}
 use Rattle.survey.specs.Check.{PlacedAnswer}
@@ -82,10 +82,10 @@ pub record Refuses {A B : Type 0} (number : A → ℕ) (Told : A → Type 0) (gr
   pub unchanged : number o.answer ≢ 0 → o.bytes ≡ lent
 
 -- zeros beside the number
-abbrev pub NothingTaken : Taken → Type 0
+abbrev pub NothingTaken : TakeAnswer → Type 0
 NothingTaken a = (a.slot ≡ 0) × (a.serial ≡ 0) × (a.left ≡ 0)
 
-abbrev pub NothingMoved : Moved → Type 0
+abbrev pub NothingMoved : MoveAnswer → Type 0
 NothingMoved a = (a.slot ≡ 0) × (a.packet ≡ empty_slot) × (a.left ≡ 0)
 
 -- the place is named with 10, and else is zero
@@ -105,9 +105,9 @@ pub record Behind (R : Router) (p t : List ℕ) : Type 0 where
 pub record Demand1 (R : Router) : Type 0 where
   pub clear : (s : List ℕ) → Bytes s → (b : Board) → Refuses (λ (n : ℕ). n) (λ n. Unit {0}) (clear_grounds s b) s (R.clear s b)
   pub take_in : (s : List ℕ) → Bytes s → (source destination : ℕ) (payload : List ℕ)
-      → Refuses (λ (a : Taken). a.number) NothingTaken (take_grounds s source destination) s (R.take_in s source destination payload)
+      → Refuses (λ (a : TakeAnswer). a.number) NothingTaken (take_grounds s source destination) s (R.take_in s source destination payload)
   pub make_move : (s : List ℕ) → Bytes s → (slot code : ℕ)
-      → Refuses (λ (a : Moved). a.number) NothingMoved (move_grounds s slot code) s (R.make_move s slot code)
+      → Refuses (λ (a : MoveAnswer). a.number) NothingMoved (move_grounds s slot code) s (R.make_move s slot code)
   pub read_payload : (s : List ℕ) → Bytes s → (slot : ℕ)
       → Refuses (λ (a : Reading). a.number) (λ a. a.bytes ≡ []) (read_grounds s slot) s (R.read_payload s slot)
   pub full_check : (s : List ℕ) → Bytes s

@@ -12,7 +12,7 @@ use Rattle.slots.specs.Slots.{slot_at, empty_slot}
 use Rattle.trailer.specs.Trailer.{last16}
 use Rattle.table.specs.Carriage.{hop}
 use Rattle.table.specs.Calls.{Outcome}
-use Rattle.router.specs.declared.moving.Moved.{Moved}
+use Rattle.router.specs.Move.{MoveAnswer}
 use Rattle.survey.specs.Copy.{without_payload}
 use Rattle.survey.specs.Secrecy.{Alike}
 use Rattle.calls.specs.Slices.{Bytes, head_in, GoodIn, before_in, slots_in, slot_in, place_in}
@@ -40,7 +40,7 @@ pub record Kept (s u : List ℕ) (Touched : ℕ → Type 0) : Type 0 where
 
 -- the packet's 16 bytes, with so many hops more, in the lowest empty slot of the target queue, the old slot zeros, and nothing else; the answer tells
 -- how many slots of the target queue are left empty
-pub record Goes (s : List ℕ) (slot : ℕ) (target : Place) (more : ℕ) (o : Outcome Moved (List ℕ)) : Type 0 where
+pub record Goes (s : List ℕ) (slot : ℕ) (target : Place) (more : ℕ) (o : Outcome MoveAnswer (List ℕ)) : Type 0 where
   pub to : ℕ
   pub lowest : LowestOf s target to
   pub answer : o.answer ≡ record { number = 0; slot = to; packet = empty_slot; left = room_left o.bytes target }
@@ -51,7 +51,7 @@ pub record Goes (s : List ℕ) (slot : ℕ) (target : Place) (more : ℕ) (o : O
 
 -- the packet's 16 bytes in the answer, the old slot zeros, one more delivered, and nothing else; the answer tells how many slots are then empty in the
 -- queue that it left
-pub record Leaves (s : List ℕ) (slot : ℕ) (o : Outcome Moved (List ℕ)) : Type 0 where
+pub record Leaves (s : List ℕ) (slot : ℕ) (o : Outcome MoveAnswer (List ℕ)) : Type 0 where
   pub answer : o.answer ≡ record { number = 0; slot = 0; packet = slot_in s slot; left = room_left o.bytes (place_in s slot) }
   pub gone : EmptyAt o.bytes slot
   pub rest : Kept s o.bytes (λ i. i ≡ slot)
@@ -60,7 +60,7 @@ pub record Leaves (s : List ℕ) (slot : ℕ) (o : Outcome Moved (List ℕ)) : T
   pub last_bytes : drop 12 (last16 o.bytes) ≡ drop 12 (last16 s)
 
 -- the one step that a lead tells: a hop adds one to the hops
-abbrev pub OneStep : List ℕ → ℕ → Lead → Outcome Moved (List ℕ) → Type 0
+abbrev pub OneStep : List ℕ → ℕ → Lead → Outcome MoveAnswer (List ℕ) → Type 0
 OneStep s slot (Hop n) o = Goes s slot (at n (place_in s slot).kind) 1 o
 OneStep s slot (Turn k) o = Goes s slot (at (place_in s slot).node k) 0 o
 OneStep s slot Out o = Leaves s slot o

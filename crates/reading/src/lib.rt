@@ -14,6 +14,7 @@ pub fn read_full<R: Read>(input: &mut R, out: &mut [u8]) -> io::Result<usize>
     ensures full_or_end { IfOk result (λ n. n < length out.new → IsAtEnd (R.remaining input.new)) }
 {
     let mut done = 0;
+    // A loop, since std's read_to_end needs the heap, read_exact doesn't tell how much it read, and copy's contract leaves open what a slice is given.
     while done < out.len() {
         let n = input.read(&mut out[done..])?;
         if n == 0 {

@@ -1,33 +1,25 @@
 // Carries out a script of calls from standard input, as docs/REPLAY.md says. The three buffers of 65,536 bytes are its bounds.
 #![tactic(auto)]
 
-mod buffers;
-mod calls;
-mod saying;
+mod answers;
+mod buffer;
+mod commands;
+mod hexadecimal;
 mod script;
-mod sizes;
 
 use std::io;
-use std::io::Read;
 
-// Is there a byte left of the input?
-fn more<R: Read>(input: &mut R) -> io::Result<bool> {
-    let mut b = [0u8; 1];
-    Ok(reading::read_full(input, &mut b)? == 1)
-}
+// The longest script, and the longest buffer that is lent.
+const MOST: usize = 65536;
 
 fn main(rt: HostRuntime) -> io::Result<()> {
-    let mut input = rt.stdin();
-    let mut bytes = [0u8; 65536];
-    let size = reading::read_full(&mut input, &mut bytes)?;
-    if size == bytes.len() {
-        if more(&mut input)? {
-            saying::malformed(&rt, size);
-            return Ok(());
-        }
+    // one byte more shows that a script is too long
+    let mut bytes = [0u8; MOST + 1];
+    let size = reading::read_full(&mut rt.stdin(), &mut bytes)?;
+    if MOST < size {
+        script::refuse(&rt, MOST);
+        return Ok(());
     }
-    let mut room = [0u8; 65536];
-    let mut copy = [0u8; 65536];
-    script::run(&rt, &bytes[..size], &mut room, &mut copy);
+    script::run(&rt, &bytes[..size]);
     Ok(())
 }

@@ -1,92 +1,76 @@
-// A script: its commands one after the other.
-ghost use Rattle.std.specs.Prelude.{◌≡◌, ◌≤◌, length};
-ghost use Rattle.replay.specs.Sizes.{size_of};
+// A script: its commands one after the other. What can't be written is passed over.
+ghost use Rattle.std.specs.Prelude.{◌<◌, length, OnOk};
 
-use crate::buffers::Lent;
-use crate::{buffers, calls, saying};
+use crate::buffer::Buffer;
+use crate::commands::{Command, Malformed};
+use crate::hexadecimal::Hexadecimal;
+use crate::{answers, commands};
 
-// The commands that are always well formed, and leave both lengths as they are. `D` is the letter that the others leave.
-#[tactic(auto, unfolding(crate::specs::Sizes::size_of))]
-fn carry_out(rt: &impl Print, letter: u8, c: &[u8], s: &mut [u8], second: &[u8])
-    requires { length c.now ≡ size_of letter }
-{
-    match letter {
-        b'C' => calls::clear(rt, c, s),
-        b'T' => calls::take_in(rt, c, s),
-        b'M' => calls::make_move(rt, c, s),
-        b'P' => calls::read_payload(rt, c, s),
-        b'F' => calls::full_check(rt, s),
-        b'N' => calls::find(rt, s),
-        b'W' => calls::show(rt, b"bytes", s),
-        _ => calls::show(rt, b"second", second),
-    }
+#[derive(Drop)]
+struct Lent {
+    slice: Buffer,
+    second: Buffer,
 }
 
-#[tactic(auto, unfolding(crate::specs::Sizes::size_of))]
-fn step(
-    rt: &impl Print,
-    letter: u8,
-    c: &[u8],
-    room: &mut [u8],
-    copy: &mut [u8],
-    slice: usize,
-    second: usize,
-) -> Lent
-    requires c_len { length c.now ≡ size_of letter }
-    requires slice_in_bounds { slice ≤ length room.old }
-    requires second_in_bounds { second ≤ length copy.old }
-    ensures slice_kept { result.slice ≤ length room.old }
-    ensures second_kept { result.second ≤ length copy.old }
-{
-    if letter == b'L' {
-        return buffers::lend(rt, c, room, second);
-    }
-    if letter == b'O' {
-        return buffers::copy_outward(rt, c, &room[..slice], copy);
-    }
-    if letter == b'S' {
-        let fine = buffers::set_byte(c, &mut room[..slice]);
-        return Lent {
-            fine,
-            slice,
-            second,
+impl Lent {
+    fn carry_out(&mut self, rt: &impl Print, command: Command) -> Result<(), Malformed> {
+        let _ = match command {
+            Command::Lend { length } => {
+                self.slice.lend(length, 0)?;
+                println!(rt; "slice {length}")
+            }
+            Command::SetByte { place, byte } => {
+                self.slice.set_byte(place, byte)?;
+                Ok(())
+            }
+            Command::Clear {
+                width,
+                height,
+                depth,
+                profile,
+            } => answers::clear(rt, self.slice.bytes_mut(), width, height, depth, profile),
+            Command::TakeIn {
+                source,
+                destination,
+                payload,
+            } => answers::take_in(rt, self.slice.bytes_mut(), source, destination, payload),
+            Command::Move { slot, code } => {
+                answers::make_move(rt, self.slice.bytes_mut(), slot, code)
+            }
+            Command::ReadPayload { slot } => answers::read_payload(rt, self.slice.bytes(), slot),
+            Command::FullCheck => answers::full_check(rt, self.slice.bytes()),
+            Command::Find => answers::find(rt, self.slice.bytes()),
+            Command::CopyOutward { length, fill } => {
+                self.second.lend(length, fill)?;
+                answers::copy_outward(rt, self.slice.bytes(), self.second.bytes_mut())
+            }
+            Command::ShowSlice => println!(rt; "bytes {}", Hexadecimal(self.slice.bytes())),
+            Command::ShowSecond => println!(rt; "second {}", Hexadecimal(self.second.bytes())),
         };
-    }
-    carry_out(rt, letter, c, &mut room[..slice], &copy[..second]);
-    Lent {
-        fine: true,
-        slice,
-        second,
+        Ok(())
     }
 }
 
-pub fn run(rt: &impl Print, script: &[u8], room: &mut [u8], copy: &mut [u8]) {
-    let mut slice = 0;
-    let mut second = 0;
-    let mut at = 0;
-    while at < script.len() {
-        let letter = script[at];
-        let size = crate::sizes::size_of(letter);
-        if size == 0 {
-            return saying::malformed(rt, at);
+fn step(rt: &impl Print, lent: &mut Lent, rest: &mut &[u8]) -> Result<(), Malformed>
+    ensures { OnOk result (length rest.new.now < length rest.old.now) }
+{
+    lent.carry_out(rt, commands::next_command(rest)?)
+}
+
+pub fn refuse(rt: &impl Print, offset: usize) {
+    let _ = println!(rt; "malformed at {offset}");
+}
+
+pub fn run(rt: &impl Print, script: &[u8]) {
+    let mut lent = Lent {
+        slice: Buffer::empty(),
+        second: Buffer::empty(),
+    };
+    let mut rest = script;
+    while !rest.is_empty() {
+        let offset = script.len() - rest.len();
+        if step(rt, &mut lent, &mut rest).is_err() {
+            return refuse(rt, offset);
         }
-        if script.len() - at < size {
-            return saying::malformed(rt, at);
-        }
-        let lent = step(
-            rt,
-            letter,
-            &script[at..at + size],
-            room,
-            copy,
-            slice,
-            second,
-        );
-        if !lent.fine {
-            return saying::malformed(rt, at);
-        }
-        slice = lent.slice;
-        second = lent.second;
-        at += size;
     }
 }

@@ -1,6 +1,7 @@
 -- What a packet carried to another queue leaves of a table, said once: the answer and the bytes, the trailer, the length, and the packets seen in their
 -- places.
 -- Assumes nothing.
+use Rattle.std.specs.Prelude.{Some}
 use Prim.Native.Nat.{ℕ, ◌+◌, ◌-◌, ◌*◌, ◌<◌, ◌≤◌}
 use mathlib.Core.Path.{◌≡◌, refl, sym, ap, subst, ◌∙◌}
 use mathlib.Core.Logic.{◌≢◌}
@@ -11,7 +12,6 @@ use native.Mathlib.Nat.{add-zero}
 use native.Mathlib.Numerals.{add-one}
 use lib.ListN.{length, get_or}
 use lib.Seq.{get_or-set_other}
-use Rattle.network.specs.declared.Lowest.TheVariants.{At}
 use Rattle.network.specs.declared.Place.{Place}
 use Rattle.network.specs.declared.Lead.TheVariants.{Hop, Turn}
 use Rattle.network.specs.declared.Kind.{Kind}
@@ -29,7 +29,6 @@ use Rattle.board.specs.Board.{net_of}
 use Rattle.board.specs.Layout.{layout_of}
 use Rattle.board.proofs.BoardLaws.{net_laws, slot_fits}
 use Rattle.trailer.specs.declared.Head.{Head}
-use Rattle.trailer.specs.declared.Headed.TheVariants.{Good}
 use Rattle.trailer.specs.Trailer.{trailer_of}
 use Rattle.table.specs.Packets.{packet_of, slot_of, view_of, item_in}
 use Rattle.table.specs.Queues.{empty_at, room_at, empties_at}
@@ -49,23 +48,23 @@ use Rattle.router.proofs.Leaving.{Leaving, leaving, vacates}
 -- the packet of slot k, with more hops, has gone to the lowest empty slot of the target queue
 pub record Carries (h : Head) (t : List ℕ) (k code : ℕ) (target : Place) (more : ℕ) : Type 0 where
   pub to : ℕ
-  pub room : room_at h.board t target ≡ At to
+  pub room : room_at h.board t target ≡ Some to
   pub inside : to < (layout_of h.board).size
   pub apart : k ≢ to
   -- the answer tells how many slots of that queue are empty now
   pub is : let u = carried h.board t k to more in
       moved_in h t k code ≡ outcome record { number = 0; slot = to; packet = empty_slot; left = empties_at h.board u target } u
-  pub head : trailer_of (carried h.board t k to more) ≡ Good h
+  pub head : trailer_of (carried h.board t k to more) ≡ Some h
   pub full : length (carried h.board t k to more) ≡ h.size
   pub seen : Carried (net_of h.board) (layout_of h.board) (view_of h t) (view_of h (carried h.board t k to more))
 
-module _ (h : Head) (t : List ℕ) (e : trailer_of t ≡ Good h) (full : length t ≡ h.size) (k code : ℕ) (z : move_due h t k code ≡ 0) where
+module _ (h : Head) (t : List ℕ) (e : trailer_of t ≡ Some h) (full : length t ≡ h.size) (k code : ℕ) (z : move_due h t k code ≡ 0) where
   it : Leaving h t k code
   it = leaving h t e full k code z
 
   -- ---- to another queue, with a hop more or none
 
-  module _ (target : Place) (more : ℕ) (on : (net_of h.board).valid target.node ≡ true) (room : room_at h.board t target ≡ At (number_at (room_at h.board t target)))
+  module _ (target : Place) (more : ℕ) (on : (net_of h.board).valid target.node ≡ true) (room : room_at h.board t target ≡ Some (number_at (room_at h.board t target)))
       (done : led_on h t k ((layout_of h.board).place_of k) (lead_of h.board t k code) ≡ gone h t k target more)
       (led : Led (net_of h.board) (item_in h.board t k) code
       (record { place = target; packet = with_hops (packet_of (slot_at t k)) (get_or (slot_at t k) 3 0 + more) })) where

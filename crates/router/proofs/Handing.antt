@@ -1,5 +1,6 @@
 -- What a packet handed out leaves of a table, said once: the answer and the bytes, the trailer, the length, and the packets seen in their places.
 -- Assumes nothing.
+use Rattle.std.specs.Prelude.{Some}
 use Prim.Native.Nat.{ℕ, ◌+◌, ◌<◌, ◌^◌}
 use mathlib.Core.Path.{◌≡◌, refl, sym, ap, ◌∙◌}
 use mathlib.Core.List.{List}
@@ -14,7 +15,6 @@ use Rattle.board.specs.Board.{net_of}
 use Rattle.board.specs.Layout.{layout_of, Sized}
 use Rattle.board.proofs.BoardLaws.{layout_laws}
 use Rattle.trailer.specs.declared.Head.{Head}
-use Rattle.trailer.specs.declared.Headed.TheVariants.{Good}
 use Rattle.trailer.specs.Trailer.{trailer_of, with_delivered}
 use Rattle.trailer.proofs.CountLaws.{delivering, trailer-with_delivered, length-with_delivered, slot_at-with_delivered}
 use Rattle.table.specs.Packets.{packet_of, slot_of, view_of, item_in}
@@ -36,12 +36,12 @@ pub record Hands (h : Head) (t : List ℕ) (k code : ℕ) : Type 0 where
   -- the answer tells how many slots of the queue that it left are empty now
   pub is : let u = with_delivered (vacated h.board t k) (h.delivered + 1) in
       moved_in h t k code ≡ outcome record { number = 0; slot = 0; packet = slot_at t k; left = empties_at h.board u ((layout_of h.board).place_of k) } u
-  pub head : trailer_of (with_delivered (vacated h.board t k) (h.delivered + 1)) ≡ Good (delivering h (h.delivered + 1))
+  pub head : trailer_of (with_delivered (vacated h.board t k) (h.delivered + 1)) ≡ Some (delivering h (h.delivered + 1))
   pub full : length (with_delivered (vacated h.board t k) (h.delivered + 1)) ≡ h.size
   pub seen : HandedOut (net_of h.board) (layout_of h.board) (view_of h t)
       (view_of (delivering h (h.delivered + 1)) (with_delivered (vacated h.board t k) (h.delivered + 1))) (handed (item_in h.board t k))
 
-module _ (h : Head) (t : List ℕ) (e : trailer_of t ≡ Good h) (full : length t ≡ h.size) (k code : ℕ) (z : move_due h t k code ≡ 0) where
+module _ (h : Head) (t : List ℕ) (e : trailer_of t ≡ Some h) (full : length t ≡ h.size) (k code : ℕ) (z : move_due h t k code ≡ 0) where
   it : Leaving h t k code
   it = leaving h t e full k code z
 

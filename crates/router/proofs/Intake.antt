@@ -1,5 +1,6 @@
 -- What an accepted taking in leaves of a table, said once: its bytes, its trailer, its length, its slots, and the packets seen in their places.
 -- Assumes nothing.
+use Rattle.std.specs.Prelude.{Some}
 use Prim.Native.Nat.{ℕ, suc, ◌+◌, ◌-◌, ◌*◌, ◌<◌, ◌≤◌, ◌^◌}
 use mathlib.Core.Path.{◌≡◌, refl, sym, ap, ◌∙◌}
 use mathlib.Core.Logic.{◌≢◌}
@@ -9,7 +10,6 @@ use native.Mathlib.Omega.{arith}
 use lib.ListN.{length}
 use borrow.Author.Tests.{eq-eqb}
 use Rattle.network.specs.declared.Kind.TheVariants.{Waiting}
-use Rattle.network.specs.declared.Lowest.TheVariants.{At}
 use Rattle.network.specs.Net.{at}
 use Rattle.network.specs.Packet.{Packet, Item, GoodItem}
 use Rattle.network.specs.View.{held, item_at}
@@ -21,7 +21,6 @@ use Rattle.board.specs.Board.{net_of}
 use Rattle.board.specs.Layout.{layout_of, Sized}
 use Rattle.board.proofs.BoardLaws.{net_laws, one_waiting, slot_fits}
 use Rattle.trailer.specs.declared.Head.{Head}
-use Rattle.trailer.specs.declared.Headed.TheVariants.{Good}
 use Rattle.trailer.specs.Trailer.{trailer_of, with_taken}
 use Rattle.trailer.proofs.TrailerLaws.{trailer_good, table_sized, trailer-with_slot}
 use Rattle.trailer.proofs.CountLaws.{taking, trailer-with_taken, length-with_taken, slot_at-with_taken}
@@ -62,7 +61,7 @@ with_packet h t slot v = with_taken (with_slot t slot v) (h.taken + 1)
 pub record Takes (h : Head) (t : List ℕ) (source destination : ℕ) (payload : List ℕ) : Type 0 where
   pub welcome : Welcome h t source destination
   pub to : ℕ
-  pub room : waiting_room h t source ≡ At to
+  pub room : waiting_room h t source ≡ Some to
   pub inside : to < (layout_of h.board).size
   pub there : (layout_of h.board).place_of to ≡ at source Waiting
   -- the answer tells how many slots of that queue are empty now
@@ -70,7 +69,7 @@ pub record Takes (h : Head) (t : List ℕ) (source destination : ℕ) (payload :
       taken_in h t source destination payload
       ≡ outcome record { number = 0; slot = to; serial = h.taken; left = empties_at h.board u (at source Waiting) } u
   pub none_left : empties_at h.board (with_packet h t to (new_record source destination h.taken payload)) (at source Waiting) ≡ 0
-  pub head : trailer_of (with_packet h t to (new_record source destination h.taken payload)) ≡ Good (taking h (h.taken + 1))
+  pub head : trailer_of (with_packet h t to (new_record source destination h.taken payload)) ≡ Some (taking h (h.taken + 1))
   pub full : length (with_packet h t to (new_record source destination h.taken payload)) ≡ h.size
   pub come : slot_at (with_packet h t to (new_record source destination h.taken payload)) to ≡ new_record source destination h.taken payload
   pub rest : (i : ℕ) → i < (layout_of h.board).size → i ≢ to
@@ -78,7 +77,7 @@ pub record Takes (h : Head) (t : List ℕ) (source destination : ℕ) (payload :
   pub seen : Entered (layout_of h.board) (view_of h t) (view_of (taking h (h.taken + 1)) (with_packet h t to (new_record source destination h.taken payload))) to
       (new_packet source destination h.taken payload)
 
-module _ (h : Head) (t : List ℕ) (e : trailer_of t ≡ Good h) (full : length t ≡ h.size) (small : h.taken < 2 ^ 32)
+module _ (h : Head) (t : List ℕ) (e : trailer_of t ≡ Some h) (full : length t ≡ h.size) (small : h.taken < 2 ^ 32)
     (source destination : ℕ) (payload : List ℕ) (l : length payload ≡ 8) (z : take_due h t source destination ≡ 0) where
   abbrev v : List ℕ
   v = new_record source destination h.taken payload
@@ -92,7 +91,7 @@ module _ (h : Head) (t : List ℕ) (e : trailer_of t ≡ Good h) (full : length 
   abbrev j : ℕ
   j = berth h t source destination w
 
-  room : waiting_room h t source ≡ At j
+  room : waiting_room h t source ≡ Some j
   room = berth_room h t source destination w
 
   inside : j < (layout_of h.board).size

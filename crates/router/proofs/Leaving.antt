@@ -1,5 +1,6 @@
 -- A granted move, before it is made: the table has its board's length and the slot lies in it; and what the packets seen become where it leaves its slot.
 -- Assumes nothing.
+use Rattle.std.specs.Prelude.{Some}
 use Prim.Native.Nat.{ℕ, ◌+◌, ◌*◌, ◌<◌, ◌≤◌}
 use mathlib.Core.Path.{◌≡◌, ap, ◌∙◌}
 use mathlib.Core.List.{List}
@@ -11,7 +12,6 @@ use Rattle.slots.specs.Slots.{slot_at}
 use Rattle.board.specs.Layout.{layout_of, Sized}
 use Rattle.board.proofs.BoardLaws.{slot_fits}
 use Rattle.trailer.specs.declared.Head.{Head}
-use Rattle.trailer.specs.declared.Headed.TheVariants.{Good}
 use Rattle.trailer.specs.Trailer.{trailer_of}
 use Rattle.trailer.proofs.TrailerLaws.{table_sized}
 use Rattle.table.specs.Packets.{slot_of, view_of}
@@ -26,7 +26,7 @@ pub record Leaving (h : Head) (t : List ℕ) (k code : ℕ) : Type 0 where
   pub inside : k < (layout_of h.board).size
   pub fits : 16 * k + 16 ≤ length t
 
-pub leaving : (h : Head) (t : List ℕ) → trailer_of t ≡ Good h → length t ≡ h.size → (k code : ℕ) → move_due h t k code ≡ 0 → Leaving h t k code
+pub leaving : (h : Head) (t : List ℕ) → trailer_of t ≡ Some h → length t ≡ h.size → (k code : ℕ) → move_due h t k code ≡ 0 → Leaving h t k code
 leaving h t e full k code z =
     let g = due_granted h t k code z in
     let s = table_sized t e full in

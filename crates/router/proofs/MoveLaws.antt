@@ -14,11 +14,10 @@ use Rattle.table.specs.Calls.{Outcome, outcome}
 use Rattle.table.proofs.CallLaws.{answered-done, answered_refused, answered-number}
 use Rattle.judging.specs.Moves.{lead_of, barred, move_rows, move_due}
 use Rattle.judging.proofs.GrantedLaws.{due_granted}
-use Rattle.router.specs.declared.moving.Moved.{Moved}
-use Rattle.router.specs.Move.{refusal, gone, handed_out, led_on, moved_in}
+use Rattle.router.specs.Move.{MoveAnswer, refusal, gone, handed_out, led_on, moved_in}
 
 module _ (h : Head) (t : List ℕ) (k code : ℕ) where
-  abbrev done : Outcome Moved (List ℕ)
+  abbrev done : Outcome MoveAnswer (List ℕ)
   done = led_on h t k ((layout_of h.board).place_of k) (lead_of h.board t k code)
 
   pub moved_refused : {n : ℕ} → move_due h t k code ≡ n → n ≢ 0 → moved_in h t k code ≡ outcome (refusal n) t

@@ -1,13 +1,12 @@
 -- What a move's call does by the verdict on it: it refuses, hands the packet out, or carries it to the verdict's slot with its hops.
 -- Assumes nothing.
+use Rattle.std.specs.Prelude.{Option, Some, None}
 use Prim.Native.Nat.{ℕ}
 use mathlib.Core.Path.{◌≡◌, refl, sym, ap, ◌∙◌}
 use mathlib.Core.Logic.{◌≢◌}
 use mathlib.Core.Bool.{true, false, cond}
 use mathlib.Core.List.{List}
 use borrow.Author.Tests.{not-false}
-use Rattle.network.specs.declared.Lowest.{Lowest}
-use Rattle.network.specs.declared.Lowest.TheVariants.{At, Nowhere}
 use Rattle.network.specs.declared.Place.{Place}
 use Rattle.network.specs.declared.Lead.{Lead}
 use Rattle.network.specs.declared.Lead.TheVariants.{Hop, Turn, Out, NotOffered}
@@ -19,28 +18,26 @@ use Rattle.trailer.specs.declared.Head.{Head}
 use Rattle.table.specs.Queues.{room_at, empties_at}
 use Rattle.table.specs.Carriage.{carried}
 use Rattle.table.specs.Calls.{Outcome, outcome}
-use Rattle.judging.specs.declared.verdict.Verdict.{Verdict}
 use Rattle.judging.specs.Moves.{lead_of, barred, blocked}
-use Rattle.judging.specs.Verdicts.{into, ahead, move_verdict}
+use Rattle.judging.specs.Verdicts.{Verdict, into, ahead, move_verdict}
 use Rattle.judging.proofs.VerdictLaws.{verdict_due, none_due, granted, is_ahead}
-use Rattle.router.specs.declared.moving.Moved.{Moved}
-use Rattle.router.specs.Move.{refusal, gone, handed_out, led_on, moved_in}
+use Rattle.router.specs.Move.{MoveAnswer, refusal, gone, handed_out, led_on, moved_in}
 use Rattle.router.proofs.MoveLaws.{moved_refused, moved_granted}
 
 -- the packet leaves, or goes to the verdict's slot with its hops
-abbrev pub went_by : Head → List ℕ → ℕ → Verdict → Outcome Moved (List ℕ)
+abbrev pub went_by : Head → List ℕ → ℕ → Verdict → Outcome MoveAnswer (List ℕ)
 went_by h t k v = outcome record { number = 0; slot = v.slot; packet = empty_slot; left = v.left } (carried h.board t k v.slot v.hops)
 
-abbrev done_by : Head → List ℕ → ℕ → Verdict → Outcome Moved (List ℕ)
+abbrev done_by : Head → List ℕ → ℕ → Verdict → Outcome MoveAnswer (List ℕ)
 done_by h t k v = cond v.leaves (handed_out h t k) (went_by h t k v)
 
 module _ (h : Head) (t : List ℕ) (k : ℕ) where
-  gone_by : (target : Place) (more : ℕ) (r : Lowest) → room_at h.board t target ≡ r → is_at r ≡ true
+  gone_by : (target : Place) (more : ℕ) (r : Option ℕ) → room_at h.board t target ≡ r → is_at r ≡ true
       → gone h t k target more ≡ done_by h t k (into r (empties_at h.board t target) more)
   unfolding gone
-  gone_by target more (At j) e i =
+  gone_by target more (Some j) e i =
       rw e
-  gone_by target more Nowhere e i = clash cc
+  gone_by target more None e i = clash cc
 
   led_by : (here : Place) (lead : Lead) → barred lead ≡ false → blocked h.board t here lead ≡ false
       → led_on h t k here lead ≡ done_by h t k (ahead h.board t here lead)

@@ -7,27 +7,7 @@ use native.Mathlib.Omega.{arith}
 use native.Mathlib.Nat.{zero-add, suc-add}
 use native.Mathlib.Numerals.{add-one}
 use lib.ListN.{length, get_or, take, drop, set, length-append, length-take, length-drop, length-set, take-append-drop}
-use lib.Seq.{
-  append_snoc,
-  drop-append-add,
-  drop_at,
-  drop-cons,
-  drop-drop,
-  drop-length,
-  length-take-le,
-  set-append_left,
-  set_at,
-  sets,
-  sets-eq,
-  take_all,
-  take-append-add,
-  take-append-le,
-  take_at,
-  take-length,
-  take-nil,
-  take-suc,
-  take-take,
-}
+use lib.Seq.{append_snoc, drop-append-add, drop_at, drop-cons, drop-drop, drop-length, length-take-le, set-append_left, set_at, take_all, take-append-add, take-append-le, take_at, take-length, take-nil, take-suc, take-take}
 use borrow.Rule.Slice.PartMut.{put_mid}
 use Rattle.slots.specs.Bytes.{part, put}
 
@@ -137,19 +117,6 @@ set-put s zero v i x h k = rw (zero-add, set-append_left v (drop (length v) s) i
 set-put [] (suc at) v i x h k = absurd (omega arith)
 set-put (y ∷ s) (suc at) v i x h k = rw suc-add (ap (λ (l : List ℕ). y ∷ l) (set-put s at v i x (omega arith) k))
 
--- ---- bytes stored one by one
-
-sets-put : (s : List ℕ) (at : ℕ) (v : List ℕ) → at + length v ≤ length s → sets s at v ≡ put s at v
-sets-put s at v h = rw (sets-eq, append_assoc, drop-drop)
-
-pub stores4 : (s : List ℕ) (at a b c d : ℕ) → at + 4 ≤ length s
-    → set (set (set (set s at a) (at + 1) b) (at + 2) c) (at + 3) d ≡ put s at (a ∷ b ∷ c ∷ d ∷ [])
-stores4 s at a b c d h =
-    let e1 : at + 1 ≡ suc at = omega arith in
-    let e2 : at + 2 ≡ suc (suc at) = omega arith in
-    let e3 : at + 3 ≡ suc (suc (suc at)) = omega arith in
-    rw (e1, e2, e3) (sets-put s at (a ∷ b ∷ c ∷ d ∷ []) h)
-
 -- ---- a loop that copies s over d from the front, one byte a turn
 
 pub copied_more : (i : ℕ) (s d : List ℕ) → i < length s → i < length d
@@ -161,13 +128,10 @@ copied_more i s d h k =
 pub copied_all : (s d : List ℕ) → length s ≡ length d → take (length s) s ++ drop (length s) d ≡ s
 copied_all s d e = rw (take-length, e, drop-length, append-nil)
 
--- ---- a part lent, as the borrow checker has it: `&s[a..a + n]`, and `&mut s[a..a + n]` when it is back
+-- ---- a part lent, as the borrow checker has it: `&s[a..a + n]`
 
 pub lent_part : (s : List ℕ) (a n : ℕ) → take (a + n - a) (drop a s) ≡ part s a n
 lent_part s a n = let e : a + n - a ≡ n = omega arith in rw e
-
-pub lent_back : (s : List ℕ) (a n : ℕ) (w v : List ℕ) → w ≡ v → length v ≡ n → put_mid a (a + n - a) s w ≡ put s a v
-lent_back s a n w v q l = let e : a + n - a ≡ length v = omega arith in rw (e, q)
 
 -- the rest of a list lent, `&s[a..]`
 pub lent_rest : (s : List ℕ) (a : ℕ) → take (length s - a) (drop a s) ≡ drop a s

@@ -1,6 +1,6 @@
 -- Laws of `slot_at` and `with_slot`, of a slot lent and given back, and of the list of slots.
 -- Assumes nothing.
-use Prim.Native.Nat.{ℕ, zero, suc, ◌+◌, ◌-◌, ◌*◌, ◌≤◌, ◌<◌}
+use Prim.Native.Nat.{ℕ, zero, suc, ◌+◌, ◌*◌, ◌≤◌, ◌<◌}
 use mathlib.Core.Path.{◌≡◌, refl, sym, ap, ◌∙◌}
 use mathlib.Core.Logic.{◌≢◌}
 use mathlib.Core.List.{List, []}
@@ -8,15 +8,11 @@ use native.Mathlib.Omega.{arith}
 use native.Mathlib.Decide.{dec_lt}
 use lib.ListN.{length, get_or, take, drop, set, length-drop, take-append-drop}
 use lib.Seq.{get_or-take, get_or-drop, drop-drop, take_at, drop_at}
-use borrow.Rule.Slice.PartMut.{put_mid}
-use Rattle.slots.specs.Bytes.{part, put, le32}
+use Rattle.slots.specs.Bytes.{part, put}
 use Rattle.slots.specs.Slots.{slot_at, with_slot, slots_of}
-use Rattle.slots.proofs.Numbers.{le32_same}
 use Rattle.slots.proofs.Parts.{
   drop-put,
   drop-put_inside,
-  lent_back,
-  lent_part,
   length_part,
   length-put,
   part-part,
@@ -87,20 +83,6 @@ get_or-slot_at t k i h = get_or-take 16 (drop (16 * k) t) i 0 h ∙ get_or-drop 
 pub part-slot_at : (t : List ℕ) (k at n : ℕ) → at + n ≤ 16 → part (slot_at t k) at n ≡ part t (16 * k + at) n
 unfolding slot_at
 part-slot_at t k at n h = part-part t (16 * k) 16 at n h
-
-pub le32-slot_at : (t : List ℕ) (k at : ℕ) → at + 4 ≤ 16 → le32 (slot_at t k) at ≡ le32 t (16 * k + at)
-le32-slot_at t k at h = le32_same (slot_at t k) t at (16 * k + at) (part-slot_at t k at 4 h)
-
--- ---- slot k lent, as the borrow checker has it: `&t[a..a + 16]` with a = 16 * k, and `&mut t[a..a + 16]` when it is back
-
-pub slot_lent : (t : List ℕ) (k : ℕ) → take (16 * k + 16 - 16 * k) (drop (16 * k) t) ≡ slot_at t k
-unfolding slot_at
-slot_lent t k = lent_part t (16 * k) 16
-
-pub slot_back : (t : List ℕ) (k : ℕ) (w v : List ℕ) → w ≡ v → length v ≡ 16
-    → put_mid (16 * k) (16 * k + 16 - 16 * k) t w ≡ with_slot t k v
-unfolding with_slot
-slot_back t k w v q l = lent_back t (16 * k) 16 w v q l
 
 -- ---- the table as a list of slots
 

@@ -1,20 +1,20 @@
 -- Laws of `zeros`: it says of a list that it is zeros alone, so of 16 bytes that they are an empty slot.
 -- Assumes nothing.
-use Prim.Native.Nat.{ℕ, zero, suc, ◌+◌, ◌<◌}
+use Prim.Native.Nat.{ℕ, zero, suc}
 use mathlib.Core.Path.{◌≡◌, refl, ap, ◌∙◌}
 use mathlib.Core.Bool.{true, ◌&&◌}
-use mathlib.Core.List.{List, [], ◌∷◌}
-use native.Mathlib.Numerals.{add-one}
+use mathlib.Core.List.{List, [], ◌∷◌, ◌++◌}
+use native.Mathlib.Omega.{arith}
 use borrow.Author.Tests.{eqb-true}
 use lib.Dec.{eqb}
-use lib.ListN.{length, get_or, drop, replicate}
-use lib.Seq.{drop-cons}
+use lib.ListN.{length, replicate}
 use Rattle.network.proofs.Tests.{and_l, and_r}
 use Rattle.slots.specs.Slots.{empty_slot, zeros}
 
--- a turn of the loop that looks for a byte that is not zero
-pub zeros_step : (p : List ℕ) (i : ℕ) → i < length p → zeros (drop i p) ≡ (eqb (get_or p i 0) 0 && zeros (drop (i + 1) p))
-zeros_step p i h = rw (add-one, drop-cons p i 0)
+-- one byte more
+pub zeros-push : (p : List ℕ) (x : ℕ) → zeros (p ++ (x ∷ [])) ≡ (zeros p && eqb x 0)
+zeros-push [] x = grind arith
+zeros-push (y ∷ p) x = grind (arith, zeros-push p x)
 
 pub zeros-replicate : (n : ℕ) → zeros (replicate n 0) ≡ true
 zeros-replicate zero = refl

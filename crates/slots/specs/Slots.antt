@@ -1,6 +1,7 @@
 -- A table of slots of 16 bytes, as a list of bytes: slot k is the 16 bytes from offset 16 * k.
 -- Assumes nothing.
-use Rattle.std.specs.Prelude.{ℕ, zero, suc, ◌*◌, List, [], ◌∷◌, Bool, true, ◌&&◌, eqb, take, drop, replicate}
+use Rattle.std.specs.Prelude.{ℕ, ◌*◌, List, [], ◌∷◌, Bool, true, ◌&&◌, eqb, replicate}
+use Rattle.std.specs.Simd.{first_chunks}
 use Rattle.slots.specs.Bytes.{part, put}
 
 unfoldable pub slot_at : List ℕ → ℕ → List ℕ
@@ -20,5 +21,4 @@ zeros (x ∷ xs) = eqb x 0 && zeros xs
 
 -- the first n slots, each as a list
 abbrev pub slots_of : ℕ → List ℕ → List (List ℕ)
-slots_of zero t = []
-slots_of (suc n) t = take 16 t ∷ slots_of n (drop 16 t)
+slots_of = first_chunks 16

@@ -1,6 +1,7 @@
 -- A table passes the full check exactly when what that means holds: every packet good in its place, no two with one serial, and taken less
 -- delivered the number held.
 -- Assumes nothing.
+use Rattle.std.specs.Prelude.{None}
 use Prim.Native.Nat.{ℕ, zero, suc, ◌+◌, ◌≤◌, ◌<◌}
 use mathlib.Core.Path.{◌≡◌, refl, sym, ap, ◌∙◌}
 use mathlib.Core.List.{List, [], ◌∷◌, map}
@@ -17,7 +18,6 @@ use Rattle.network.specs.View.{seen, contents}
 use Rattle.network.proofs.Lists.{all_collect, collect_all, all_images, images_all}
 use Rattle.network.proofs.Course.{means_good}
 use Rattle.network.proofs.Tests.{and_yes, and_no}
-use Rattle.network.specs.declared.Lowest.TheVariants.{Nowhere}
 use Rattle.slots.specs.Slots.{slot_at, zeros}
 use Rattle.board.specs.Board.{GoodBoard, net_of}
 use Rattle.board.specs.Layout.{layout_of}
@@ -114,7 +114,7 @@ module _ (h : Head) (t : List ℕ) where
   abbrev Passes : Type 0
   Passes = Passing (net_of h.board) (contents (layout_of h.board) (view_of h t))
 
-  pub passes_means : GoodBoard h.board → h.delivered ≤ h.taken → fault_in h t ≡ Nowhere → Passes
+  pub passes_means : GoodBoard h.board → h.delivered ≤ h.taken → fault_in h t ≡ None → Passes
   passes_means g d e =
       let f = fault_none h t e in
       let all : h.taken ≡ h.delivered + length (collect (there h t) size) = omega (arith, f.counted, count_held h t size) in
@@ -132,7 +132,7 @@ module _ (h : Head) (t : List ℕ) where
       go true e = and_yes e ∙ ap not (means_good (net_of h.board) h.taken h.delivered (item_in h.board t i) (f i l e))
       go false e = and_no (not (good_at h t i)) e
 
-  pub means_passes : Passes → fault_in h t ≡ Nowhere
+  pub means_passes : Passes → fault_in h t ≡ None
   means_passes p =
       let good = sound_spoiled (held_all h t Sound size p.sound) in
       let fresh = by_distinct h t size p.distinct in

@@ -1,6 +1,7 @@
 -- Document 01's secrecy: two slices that are alike, with equal second buffers before the call, give the same answer and copy. The full check
 -- answers them alike too.
 -- Assumes nothing.
+use Rattle.std.specs.Prelude.{Option, Some, None, Ok, Err}
 use Prim.Native.Nat.{ℕ, ◌+◌, ◌-◌, ◌*◌}
 use mathlib.Core.Path.{◌≡◌, refl, sym, ap, ◌∙◌}
 use mathlib.Core.Logic.{⊎_elim}
@@ -13,13 +14,10 @@ use Rattle.slots.specs.Slots.{zeros}
 use Rattle.slots.proofs.SlotLaws.{slots_ext}
 use Rattle.board.specs.Layout.{layout_of}
 use Rattle.trailer.specs.declared.Head.{Head}
-use Rattle.trailer.specs.declared.Headed.{Headed}
-use Rattle.trailer.specs.declared.Headed.TheVariants.{Good, Bad}
 use Rattle.trailer.specs.Trailer.{trailer_of, last16}
 use Rattle.trailer.proofs.TrailerLaws.{table_sized, trailer_good, trailer_same, trailer_before}
+use Rattle.table.specs.declared.refusals.Refusal.TheVariants.{Trailer, Fault}
 use Rattle.table.specs.Calls.{outcome}
-use Rattle.survey.specs.declared.checking.Checked.TheVariants.{Passes, BadTrailer, FaultAt}
-use Rattle.survey.specs.declared.copying.Copied.TheVariants as copied
 use Rattle.survey.specs.Check.{fault_in, fault_or, unless_fault, read_by, on_passing, checked_slice}
 use Rattle.survey.specs.Copy.{veiled, copied_in, copied_slice}
 use Rattle.survey.specs.Secrecy.{SameButPayloads, Alike, tables, neither}
@@ -28,8 +26,8 @@ use Rattle.survey.proofs.Sight.{SeenSame, fault_same}
 
 -- what is read of two slices that are alike: no head in either, or one head, and tables that differ in payloads alone
 pub data ReadAlike : List ℕ → List ℕ → Type 0 where
-  no_head : {s u : List ℕ} → trailer_of s ≡ Bad → trailer_of u ≡ Bad → ReadAlike s u
-  one_head : {s u : List ℕ} (h : Head) → trailer_of s ≡ Good h → trailer_of u ≡ Good h
+  no_head : {s u : List ℕ} → trailer_of s ≡ None → trailer_of u ≡ None → ReadAlike s u
+  one_head : {s u : List ℕ} (h : Head) → trailer_of s ≡ Some h → trailer_of u ≡ Some h
       → SameButPayloads (layout_of h.board).size (drop (length s - h.size) s) (drop (length u - h.size) u)
       → ReadAlike s u
 
@@ -78,9 +76,9 @@ module _ {n : ℕ} {t w : List ℕ} (a : SameButPayloads n t w) where
     read_tables : ReadAlike (p ++ t) (q ++ w)
     read_tables = by (trailer_of t) refl
       where
-        by : (x : Headed) → trailer_of t ≡ x → ReadAlike (p ++ t) (q ++ w)
-        by Bad e = no_head (first-trailer ∙ e) (second_trailer ∙ e)
-        by (Good h) e =
+        by : (x : Option Head) → trailer_of t ≡ x → ReadAlike (p ++ t) (q ++ w)
+        by None e = no_head (first-trailer ∙ e) (second_trailer ∙ e)
+        by (Some h) e =
             let l : h.size ≡ length t = ap (λ (x : Head). x.size) (trailer_good t e).read ∙ ap (λ (z : List ℕ). le32 z 12) ends ∙ a.distance in
             let m : n ≡ (layout_of h.board).size = omega (arith, a.full, (table_sized t e (sym l)).full) in
             let same : SameButPayloads (layout_of h.board).size t w = rw m at a in
@@ -109,10 +107,10 @@ module _ {A : Type 0} (bad : A) (fault : ℕ → A) (passes : Head → List ℕ 
 
 pub check_secret : {s u : List ℕ} → Alike s u → checked_slice s ≡ checked_slice u
 unfolding checked_slice
-check_secret a = passing_secret BadTrailer FaultAt (λ h t. Passes) (λ h t w b. refl) a
+check_secret a = passing_secret (Err Trailer) (λ place. Err (Fault place)) (λ h t. Ok tt) (λ h t w b. refl) a
 
 pub secret : {s u : List ℕ} → Alike s u → (out : List ℕ) → copied_slice s out ≡ copied_slice u out
 unfolding copied_slice copied_in
 secret a out =
-    passing_secret (outcome copied.BadTrailer out) (λ place. outcome (copied.FaultAt place) out) (copied_in out)
+    passing_secret (outcome (Err Trailer) out) (λ place. outcome (Err (Fault place)) out) (copied_in out)
     (λ h t w b. rw (same_copy b, b.full, b.full_too)) a

@@ -1,14 +1,13 @@
 -- Outward copy: 1, 10, then 9 unless the second buffer has exactly the table's length. It receives the table with the payload of each held
 -- slot zero. (An empty slot is zeros already.)
 -- Assumes nothing.
-use Rattle.std.specs.Prelude.{ℕ, zero, suc, List, ◌++◌, cond, eqb, length, take, drop, replicate}
+use Rattle.std.specs.Prelude.{ℕ, zero, suc, List, ◌++◌, cond, eqb, length, take, drop, replicate, Result, Ok, Err, ⊤}
 use Rattle.board.specs.Layout.{layout_of}
 use Rattle.trailer.specs.declared.Head.{Head}
-use Rattle.table.specs.Refusals.{trailer_not_good, check_failed, wrong_length}
+use Rattle.table.specs.declared.refusals.Refusal.{Refusal}
+use Rattle.table.specs.declared.refusals.Refusal.TheVariants.{Trailer, Buffer, Fault}
 use Rattle.table.specs.Calls.{Outcome, outcome}
-use Rattle.survey.specs.declared.copying.Copied.{Copied}
-use Rattle.survey.specs.declared.copying.Copied.TheVariants.{Done, BadTrailer, FaultAt, WrongLength}
-use Rattle.survey.specs.Check.{PlacedAnswer, unless_fault, on_passing}
+use Rattle.survey.specs.Check.{PlacedAnswer, check_answer, on_passing}
 
 -- a slot's bytes with the payload zero
 abbrev pub without_payload : List ℕ → List ℕ
@@ -20,18 +19,12 @@ veiled zero t = t
 veiled (suc n) t = without_payload (take 16 t) ++ veiled n (drop 16 t)
 
 -- of a table that passes
-unfoldable pub copied_in : List ℕ → Head → List ℕ → Outcome Copied (List ℕ)
-copied_in out h t = cond (eqb (length out) (length t)) (outcome Done (veiled (layout_of h.board).size t)) (outcome WrongLength out)
+unfoldable pub copied_in : List ℕ → Head → List ℕ → Outcome (Result ⊤ Refusal) (List ℕ)
+copied_in out h t = cond (eqb (length out) (length t)) (outcome (Ok tt) (veiled (layout_of h.board).size t)) (outcome (Err Buffer) out)
 
-unfoldable pub copied_unless : List ℕ → Head → List ℕ → Outcome Copied (List ℕ)
-copied_unless out = unless_fault (λ place. outcome (FaultAt place) out) (copied_in out)
-
-unfoldable pub copied_slice : List ℕ → List ℕ → Outcome Copied (List ℕ)
-copied_slice s out = on_passing s (outcome BadTrailer out) (λ place. outcome (FaultAt place) out) (copied_in out)
+unfoldable pub copied_slice : List ℕ → List ℕ → Outcome (Result ⊤ Refusal) (List ℕ)
+copied_slice s out = on_passing s (outcome (Err Trailer) out) (λ place. outcome (Err (Fault place)) out) (copied_in out)
 
 -- the paper's number and place of each answer
-abbrev pub copy_answer : Copied → PlacedAnswer
-copy_answer Done = record { number = 0; place = 0 }
-copy_answer BadTrailer = record { number = trailer_not_good; place = 0 }
-copy_answer (FaultAt place) = record { number = check_failed; place = place }
-copy_answer WrongLength = record { number = wrong_length; place = 0 }
+abbrev pub copy_answer : Result ⊤ Refusal → PlacedAnswer
+copy_answer = check_answer

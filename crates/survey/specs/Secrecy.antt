@@ -1,9 +1,8 @@
 -- Document 01, "Outward copy": two tables that differ only in payloads of slots held in both and in bytes before the table.
 -- Assumes nothing.
-use Rattle.std.specs.Prelude.{ℕ, ◌+◌, ◌*◌, ◌<◌, ◌≡◌, ◌⊎◌, List, ◌++◌, false, length, take, drop}
+use Rattle.std.specs.Prelude.{ℕ, ◌+◌, ◌*◌, ◌<◌, ◌≡◌, ◌⊎◌, List, ◌++◌, false, length, take, drop, None}
 use Rattle.slots.specs.Bytes.{le32}
 use Rattle.slots.specs.Slots.{slot_at, zeros}
-use Rattle.trailer.specs.declared.Headed.TheVariants.{Bad}
 use Rattle.trailer.specs.Trailer.{trailer_of}
 
 -- a slot's bytes in two tables: the same, or held in both and the same but for the payload
@@ -21,4 +20,4 @@ pub record SameButPayloads (n : ℕ) (t w : List ℕ) : Type 0 where
 -- two slices that end with such tables, or that have none
 pub data Alike : List ℕ → List ℕ → Type 0 where
   tables : (p q : List ℕ) {n : ℕ} {t w : List ℕ} → SameButPayloads n t w → Alike (p ++ t) (q ++ w)
-  neither : {s u : List ℕ} → trailer_of s ≡ Bad → trailer_of u ≡ Bad → Alike s u
+  neither : {s u : List ℕ} → trailer_of s ≡ None → trailer_of u ≡ None → Alike s u

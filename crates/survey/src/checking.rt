@@ -1,46 +1,14 @@
 // The full check: it names its first fault.
 ghost use Rattle.std.specs.Prelude.{◌≡◌, ◌+◌, ◌*◌, ◌≤◌, ◌<◌, length};
-ghost use Rattle.board.specs.Layout.{layout_of, Sized};
+ghost use Rattle.board.specs.Layout.{layout_of};
 ghost use Rattle.table.specs.Held.{held_at, held_below};
-ghost use Rattle.survey.specs.Check.{spoiled_at, first_spoiled, has_serial, repeats_at, first_repeat, miscount, fault_in, checked_in, checked_slice, check_answer};
+ghost use Rattle.survey.specs.Check.{spoiled_at, first_spoiled, has_serial, repeats_at, first_repeat, miscount, fault_in, checked_in, checked_slice};
 ghost use Rattle.survey.specs.Met.{Met};
 
-use network::Lowest;
-use trailer::{Head, Headed};
+use table::Refusal;
+use trailer::Table;
 
-#[derive(Clone, Copy)]
-pub enum Checked {
-    Passes,
-    BadTrailer,
-    FaultAt(u32),
-}
-
-// The paper's number and place of an answer.
-#[derive(Clone, Copy)]
-pub struct PlacedAnswer {
-    pub number: u32,
-    pub place: u32,
-}
-
-pub fn answer_of(c: Checked) -> PlacedAnswer
-    ensures { result ≡ check_answer c }
-{
-    match c {
-        Checked::Passes => PlacedAnswer {
-            number: 0,
-            place: 0,
-        },
-        Checked::BadTrailer => PlacedAnswer {
-            number: table::refusals::TRAILER,
-            place: 0,
-        },
-        Checked::FaultAt(place) => PlacedAnswer {
-            number: table::refusals::FAULT,
-            place,
-        },
-    }
-}
-
+// That a slot lies in the table is asked call by call, as `slots::slot` asks it: a struct of bytes and number would be made for one use.
 fn held(t: &[u8], k: usize) -> bool
     requires { 16 * k + 16 ≤ length t.now }
     ensures { result ≡ held_at t.now k }
@@ -48,32 +16,19 @@ fn held(t: &[u8], k: usize) -> bool
     !slots::slot_empty(t, k)
 }
 
-fn spoiled(t: &[u8], h: Head, k: usize) -> bool
-    requires sized { Sized h.board t.now }
-    requires k_bound { k < (layout_of h.board).size }
-    ensures { result ≡ spoiled_at h t.now k }
+fn spoiled(t: &Table, k: usize) -> bool
+    requires { k < (layout_of t.now.head.board).size }
+    ensures { result ≡ spoiled_at t.now.head t.now.bytes.now k }
 {
-    if !held(t, k) {
-        return false;
-    }
-    !table::packets::good_at(t, h, k)
+    held(t.bytes, k) && !table::packets::good_at(t, k)
 }
 
 // The lowest spoiled slot.
-fn first_spoiled(t: &[u8], h: Head) -> Lowest
-    requires { Sized h.board t.now }
-    ensures { result ≡ first_spoiled h t.now }
+fn first_spoiled(t: &Table) -> Option<usize>
+    ensures { result ≡ first_spoiled t.now.head t.now.bytes.now }
 {
-    let b = h.board;
-    let n = board::layout::slots_of(b);
-    let mut k = 0;
-    while k < n {
-        if spoiled(t, h, k) {
-            return Lowest::At(k);
-        }
-        k += 1;
-    }
-    Lowest::Nowhere
+    let n = board::layout::slots_of(t.head.board);
+    (0..n).find(|&k| spoiled(t, k))
 }
 
 // Does a held slot below `n` have this serial?
@@ -81,16 +36,7 @@ fn has_serial(t: &[u8], serial: u32, n: usize) -> bool
     requires { 16 * n ≤ length t.now }
     ensures { result ≡ has_serial t.now serial n }
 {
-    let mut k = n;
-    while 0 < k {
-        k -= 1;
-        if held(t, k) {
-            if slots::slot_serial(t, k) == serial {
-                return true;
-            }
-        }
-    }
-    false
+    (0..n).any(|k| held(t, k) && slots::slot_serial(t, k) == serial)
 }
 
 // Does a lower held slot have the serial of slot `k`? Only where the filter has met the serial, modulo 4,096, are lower slots searched.
@@ -113,21 +59,17 @@ fn repeats(t: &[u8], flags: &mut [u8; 512], k: usize) -> bool
 }
 
 // The lowest held slot whose serial a lower held slot has.
-fn first_repeat(t: &[u8], h: Head) -> Lowest
-    requires { Sized h.board t.now }
-    ensures { result ≡ first_repeat h t.now }
+fn first_repeat(t: &Table) -> Option<usize>
+    ensures { result ≡ first_repeat t.now.head t.now.bytes.now }
 {
-    let b = h.board;
-    let n = board::layout::slots_of(b);
+    let n = board::layout::slots_of(t.head.board);
     let mut flags = [0u8; 512];
-    let mut k = 0;
-    while k < n {
-        if repeats(t, &mut flags, k) {
-            return Lowest::At(k);
+    for k in 0..n {
+        if repeats(t.bytes, &mut flags, k) {
+            return Some(k);
         }
-        k += 1;
     }
-    Lowest::Nowhere
+    None
 }
 
 // How many of the slots below `n` are held.
@@ -135,70 +77,49 @@ fn held_below(t: &[u8], n: usize) -> usize
     requires { 16 * n ≤ length t.now }
     ensures { result ≡ held_below t.now n }
 {
-    let mut count = 0;
-    let mut k = 0;
-    while k < n {
-        if held(t, k) {
-            count += 1;
-        }
-        k += 1;
-    }
-    count
+    (0..n).filter(|&k| held(t, k)).count()
 }
 
 // S, where taken less delivered isn't the number of held slots.
-fn miscounted(t: &[u8], h: Head) -> Lowest
-    requires sized { Sized h.board t.now }
-    requires delivered_le_taken { h.delivered ≤ h.taken }
-    ensures { result ≡ miscount h t.now }
+#[tactic(auto, unfolding(crate::specs::Check::miscount))]
+fn miscounted(t: &Table) -> Option<usize>
+    ensures { result ≡ miscount t.now.head t.now.bytes.now }
 {
-    let b = h.board;
-    let n = board::layout::slots_of(b);
-    let outstanding = (h.taken - h.delivered) as usize;
-    if outstanding == held_below(t, n) {
-        return Lowest::Nowhere;
+    let n = board::layout::slots_of(t.head.board);
+    let outstanding = t.head.taken.saturating_sub(t.head.delivered) as usize;
+    (outstanding != held_below(t.bytes, n)).then_some(n)
+}
+
+// The first fault of the table. `or_else` was tried: of a closure that holds a `&Table`, nothing is known of what it returns.
+#[tactic(auto, unfolding(crate::specs::Check::fault_in))]
+pub fn first_fault(t: &Table) -> Option<usize>
+    ensures { result ≡ fault_in t.now.head t.now.bytes.now }
+{
+    if let Some(k) = first_spoiled(t) {
+        return Some(k);
     }
-    Lowest::At(n)
+    if let Some(k) = first_repeat(t) {
+        return Some(k);
+    }
+    miscounted(t)
 }
 
-// The first fault of the table `t`, whose trailer is good.
-pub fn first_fault(t: &[u8], h: Head) -> Lowest
-    requires sized { Sized h.board t.now }
-    requires delivered_le_taken { h.delivered ≤ h.taken }
-    ensures { result ≡ fault_in h t.now }
+#[tactic(auto, unfolding(crate::specs::Check::checked_in))]
+pub(crate) fn passes(t: &Table) -> Result<(), Refusal>
+    ensures { result ≡ checked_in t.now.head t.now.bytes.now }
 {
-    let spoiled = first_spoiled(t, h);
-    let Lowest::Nowhere = spoiled else {
-        return spoiled;
-    };
-    let repeated = first_repeat(t, h);
-    let Lowest::Nowhere = repeated else {
-        return repeated;
-    };
-    miscounted(t, h)
-}
-
-fn check_table(t: &[u8], h: Head) -> Checked
-    requires sized { Sized h.board t.now }
-    requires delivered_le_taken { h.delivered ≤ h.taken }
-    ensures { result ≡ checked_in h t.now }
-{
-    let Lowest::At(place) = first_fault(t, h) else {
-        return Checked::Passes;
-    };
-    Checked::FaultAt(place as u32)
+    match first_fault(t) {
+        Some(place) => Err(Refusal::Fault(place as u32)),
+        None => Ok(()),
+    }
 }
 
 // Passes, or the first fault with its place: the lowest spoiled slot, else the lowest held slot whose serial a lower one has, else the number of
 // slots where the counts disagree.
 // Refusals: 1 trailer not good; 10 a fault.
-pub fn full_check(s: &[u8]) -> Checked
+pub fn full_check(s: &[u8]) -> Result<(), Refusal>
     ensures { result ≡ checked_slice s.now }
 {
-    let Headed::Good(h) = trailer::trailer(s) else {
-        return Checked::BadTrailer;
-    };
-    let size = h.size;
-    let start = s.len() - size;
-    check_table(&s[start..], h)
+    let t = trailer::table_in(s).ok_or(Refusal::Trailer)?;
+    passes(&t)
 }

@@ -1,6 +1,7 @@
 -- A packet that leaves slot a, and one carried from there to slot c: the slots after it, the table's length, what follows the slots, and the trailer;
 -- and that a carried packet may be copied before it leaves.
 -- Assumes nothing.
+use Rattle.std.specs.Prelude.{Some}
 use Prim.Native.Nat.{ℕ, ◌+◌, ◌*◌, ◌≤◌, ◌<◌}
 use mathlib.Core.Path.{◌≡◌, refl, ◌∙◌}
 use mathlib.Core.Logic.{◌≢◌}
@@ -13,7 +14,6 @@ use Rattle.board.specs.declared.Board.{Board}
 use Rattle.board.specs.Layout.{layout_of}
 use Rattle.board.proofs.BoardLaws.{slot_fits}
 use Rattle.trailer.specs.declared.Head.{Head}
-use Rattle.trailer.specs.declared.Headed.TheVariants.{Good}
 use Rattle.trailer.specs.Trailer.{trailer_of}
 use Rattle.trailer.proofs.TrailerLaws.{table_sized, trailer-with_slot}
 use Rattle.table.specs.Carriage.{hop, vacated, carried}
@@ -90,12 +90,12 @@ drop-carried b n t a c more ha hc l =
     drop-with_slot n (vacated b t a) c _ hc (omega arith) (length-hopped t a more (omega arith)) ∙ drop_vacated b n t a ha l
 
 -- the trailer is kept
-module _ (t : List ℕ) {h : Head} (e : trailer_of t ≡ Good h) (l : length t ≡ h.size) where
-  pub trailer_vacated : (k : ℕ) → k < (layout_of h.board).size → trailer_of (vacated h.board t k) ≡ Good h
+module _ (t : List ℕ) {h : Head} (e : trailer_of t ≡ Some h) (l : length t ≡ h.size) where
+  pub trailer_vacated : (k : ℕ) → k < (layout_of h.board).size → trailer_of (vacated h.board t k) ≡ Some h
   unfolding vacated
   trailer_vacated k u = trailer-with_slot t k empty_slot e l u refl
 
-  pub trailer-carried : (a c more : ℕ) → a < (layout_of h.board).size → c < (layout_of h.board).size → trailer_of (carried h.board t a c more) ≡ Good h
+  pub trailer-carried : (a c more : ℕ) → a < (layout_of h.board).size → c < (layout_of h.board).size → trailer_of (carried h.board t a c more) ≡ Some h
   unfolding carried
   trailer-carried a c more u w =
       let z = table_sized t e l in

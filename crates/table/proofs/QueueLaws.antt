@@ -1,5 +1,6 @@
 -- A node's queue: its slots, the room found in it, and how many of its slots are empty.
 -- Assumes nothing.
+use Rattle.std.specs.Prelude.{Some}
 use Prim.Native.Nat.{ℕ, suc, ◌+◌, ◌-◌, ◌≤◌, ◌<◌}
 use mathlib.Core.Path.{◌≡◌, sym, ap, subst, ◌∙◌}
 use mathlib.Core.Logic.{◌≢◌}
@@ -7,7 +8,6 @@ use mathlib.Core.Bool.{true, false}
 use mathlib.Core.List.{List}
 use native.Mathlib.Omega.{arith}
 use lib.Dec.{ltb}
-use Rattle.network.specs.declared.Lowest.TheVariants.{At}
 use Rattle.network.specs.declared.Place.{Place}
 use Rattle.network.specs.Search.{is_at, IsLowest}
 use Rattle.network.proofs.SearchLaws.{at_lowest}
@@ -42,7 +42,7 @@ module _ (b : Board) (g : GoodBoard b) (p : Place) (on : (net_of b).valid p.node
       let at : first + (i - first) ≡ i = omega arith in
       ap (layout_of b).place_of (sym at) ∙ (layout_laws b g).there p (i - first) on (omega arith)
 
-module _ (b : Board) (t : List ℕ) (p : Place) (k : ℕ) (e : room_at b t p ≡ At k) where
+module _ (b : Board) (t : List ℕ) (p : Place) (k : ℕ) (e : room_at b t p ≡ Some k) where
   pub room_lowest : IsLowest (empty_at t) ((layout_of b).first p) ((layout_of b).room p.kind) k
   unfolding room_at
   room_lowest = at_lowest (empty_at t) _ _ k e

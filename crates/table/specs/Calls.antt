@@ -1,9 +1,7 @@
 -- The shape of every call: an answer, and the bytes of what was lent as it returns; the first refusal that is due changes nothing.
 -- Assumes nothing.
-use Rattle.std.specs.Prelude.{ℕ, ◌-◌, cond, List, ◌++◌, eqb, length, take, drop}
+use Rattle.std.specs.Prelude.{ℕ, ◌-◌, cond, List, ◌++◌, eqb, length, take, drop, Option, Some, None}
 use Rattle.trailer.specs.declared.Head.{Head}
-use Rattle.trailer.specs.declared.Headed.{Headed}
-use Rattle.trailer.specs.declared.Headed.TheVariants.{Good, Bad}
 use Rattle.trailer.specs.Trailer.{trailer_of}
 use Rattle.table.specs.Refusals.{Row, first_due, trailer_not_good}
 
@@ -23,9 +21,9 @@ abbrev pub after : {A : Type 0} → List ℕ → Outcome A (List ℕ) → Outcom
 after p o = outcome o.answer (p ++ o.bytes)
 
 -- a call on the table of a slice: refusal 1 where the trailer is not good; else what f says of the table
-abbrev pub on_headed : {A : Type 0} → List ℕ → (ℕ → A) → (Head → List ℕ → Outcome A (List ℕ)) → Headed → Outcome A (List ℕ)
-on_headed s refusal f Bad = outcome (refusal trailer_not_good) s
-on_headed s refusal f (Good h) = after (take (length s - h.size) s) (f h (drop (length s - h.size) s))
+abbrev pub on_headed : {A : Type 0} → List ℕ → (ℕ → A) → (Head → List ℕ → Outcome A (List ℕ)) → Option Head → Outcome A (List ℕ)
+on_headed s refusal f None = outcome (refusal trailer_not_good) s
+on_headed s refusal f (Some h) = after (take (length s - h.size) s) (f h (drop (length s - h.size) s))
 
 abbrev pub on_table : {A : Type 0} → List ℕ → (ℕ → A) → (Head → List ℕ → Outcome A (List ℕ)) → Outcome A (List ℕ)
 on_table s refusal f = on_headed s refusal f (trailer_of s)

@@ -12,10 +12,11 @@ fn add_hops(t: &mut [u8], k: usize, more: u8)
     ensures { t.new ≡ with_slot t.old k (hop (slot_at t.old k) more) }
 {
     let at = 16 * k + 3;
-    t[at] = t[at] + more;
+    t[at] += more;
 }
 
 // Slot `k` after its packet has gone: 16 zeros.
+#[tactic(auto, unfolding(crate::specs::Carriage::vacated))]
 pub fn leave(t: &mut [u8], b: Board, k: usize)
     requires { 16 * k + 16 ≤ length t.old }
     ensures { t.new ≡ vacated b t.old k }

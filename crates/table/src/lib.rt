@@ -5,3 +5,5 @@ pub mod carriage;
 pub mod packets;
 pub mod queues;
 pub mod refusals;
+
+pub use refusals::Refusal;

@@ -1,24 +1,53 @@
-// The refusals' numbers (document 01, "What each call answers"; document 02).
-pub const TRAILER: u32 = 1;
+// Why a call is refused (document 01, "What each call answers"; document 02).
+ghost use Rattle.std.specs.Prelude.{◌≡◌};
+ghost use Rattle.table.specs.Refusals.{number_of, place_of};
 
-pub const OUT_OF_RANGE: u32 = 2;
+#[derive(Clone, Copy, Debug, PartialEq, Eq)]
+pub enum Refusal {
+    Trailer,
+    OutOfRange,
+    Empty,
+    Spoiled,
+    NotOffered,
+    NoRoom,
+    AllTaken,
+    Sizes,
+    Buffer,
+    // with the place of the first fault
+    Fault(u32),
+    NothingHeld,
+    GivesWay,
+}
 
-pub const EMPTY: u32 = 3;
+impl Refusal {
+    #[tactic(auto, unfolding(crate::specs::Refusals::number_of))]
+    pub fn number(self) -> u32
+        ensures { result ≡ number_of self }
+    {
+        match self {
+            Refusal::Trailer => 1,
+            Refusal::OutOfRange => 2,
+            Refusal::Empty => 3,
+            Refusal::Spoiled => 4,
+            Refusal::NotOffered => 5,
+            Refusal::NoRoom => 6,
+            Refusal::AllTaken => 7,
+            Refusal::Sizes => 8,
+            Refusal::Buffer => 9,
+            Refusal::Fault(_) => 10,
+            Refusal::NothingHeld => 11,
+            Refusal::GivesWay => 12,
+        }
+    }
 
-pub const SPOILED: u32 = 4;
-
-pub const NOT_OFFERED: u32 = 5;
-
-pub const NO_ROOM: u32 = 6;
-
-pub const ALL_TAKEN: u32 = 7;
-
-pub const SIZES: u32 = 8;
-
-pub const BUFFER: u32 = 9;
-
-pub const FAULT: u32 = 10;
-
-pub const NOTHING_HELD: u32 = 11;
-
-pub const GIVES_WAY: u32 = 12;
+    // The place that is answered beside 10.
+    #[tactic(auto, unfolding(crate::specs::Refusals::place_of))]
+    pub fn place(self) -> u32
+        ensures { result ≡ place_of self }
+    {
+        match self {
+            Refusal::Fault(place) => place,
+            _ => 0,
+        }
+    }
+}

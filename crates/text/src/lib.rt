@@ -1,49 +1,71 @@
-// Text put into a lent buffer. Each function puts a text at a place and answers the place past it.
-#![tactic(auto)]
+// Text put into a lent buffer.
+#![tactic(auto, using(crate::proofs::PutLaws::writing))]
 
-ghost use Rattle.std.specs.Prelude.{◌∷◌, [], ◌++◌};
+ghost use Rattle.std.specs.Prelude.{◌≡◌, ◌∷◌, [], ◌++◌};
 ghost use Rattle.text.specs.Dec.{dec};
-ghost use Rattle.text.specs.Put.{Fits, Wrote};
+ghost use Rattle.text.specs.Put.{Takes, added, begun};
 
-// `n` in decimal.
-pub fn put_decimal(buf: &mut [u8], at: usize, n: u32) -> usize
-    requires { Fits buf.old at (dec n) }
-    ensures { Wrote buf.old at (dec n) buf.new result }
-{
-    if n < 10 {
-        buf[at] = 48 + n as u8;
-        return at + 1;
+// A lent buffer, of which the bytes below `at` are written.
+pub struct Text<'a> {
+    pub buf: &'a mut [u8],
+    pub at: usize,
+}
+
+impl<'a> Text<'a> {
+    pub fn new(buf: &'a mut [u8]) -> Text<'a>
+        ensures { result ≡ begun buf.entry }
+    {
+        Text { buf, at: 0 }
     }
-    let next = put_decimal(buf, at, n / 10);
-    buf[next] = 48 + (n % 10) as u8;
-    next + 1
-}
 
-pub fn put_byte(buf: &mut [u8], at: usize, b: u8) -> usize
-    requires { Fits buf.old at (b ∷ []) }
-    ensures { Wrote buf.old at (b ∷ []) buf.new result }
-{
-    buf[at] = b;
-    at + 1
-}
-
-pub fn put_bytes(buf: &mut [u8], at: usize, src: &[u8]) -> usize
-    requires { Fits buf.old at src.now }
-    ensures { Wrote buf.old at src.now buf.new result }
-{
-    let mut i = 0;
-    while i < src.len() {
-        buf[at + i] = src[i];
-        i += 1;
+    #[tactic(auto, using(crate::proofs::PutLaws::put_byte), unfolding(crate::specs::Put::added))]
+    pub fn byte(&mut self, b: u8)
+        requires { Takes self.old (b ∷ []) }
+        ensures { self.new ≡ added self.old (b ∷ []) }
+    {
+        self.buf[self.at] = b;
+        self.at += 1;
     }
-    at + i
-}
 
-// A word, and a number after it.
-pub fn put_word_decimal(buf: &mut [u8], at: usize, word: &[u8], n: u32) -> usize
-    requires { Fits buf.old at (word.now ++ dec n) }
-    ensures { Wrote buf.old at (word.now ++ dec n) buf.new result }
-{
-    let a = put_bytes(buf, at, word);
-    put_decimal(buf, a, n)
+    #[tactic(auto, unfolding(crate::specs::Put::added))]
+    pub fn bytes(&mut self, src: &[u8])
+        requires { Takes self.old src.now }
+        ensures { self.new ≡ added self.old src.now }
+    {
+        let end = self.at + src.len();
+        self.buf[self.at..end].copy_from_slice(src);
+        self.at = end;
+    }
+
+    // `n` in decimal, digit by digit as its definition has it: `itoa` would write it into a buffer of its own to be copied from, and be no plainer.
+    #[tactic(auto, using(crate::proofs::PutLaws::writing, crate::proofs::DecLaws::dec_small, crate::proofs::DecLaws::dec_more))]
+    pub fn decimal(&mut self, n: u32)
+        requires { Takes self.old (dec n) }
+        ensures { self.new ≡ added self.old (dec n) }
+    {
+        if n < 10 {
+            self.byte(b'0' + n as u8);
+            return;
+        }
+        self.decimal(n / 10);
+        self.byte(b'0' + (n % 10) as u8);
+    }
+
+    // A word, and a number after it.
+    pub fn word_decimal(&mut self, word: &[u8], n: u32)
+        requires { Takes self.old (word.now ++ dec n) }
+        ensures { self.new ≡ added self.old (word.now ++ dec n) }
+    {
+        self.bytes(word);
+        self.decimal(n);
+    }
+
+    // How many bytes are written. They stay in the buffer.
+    pub fn end(self) -> usize
+        ensures length { result ≡ self.entry.at }
+        ensures bytes { self.exit.0.now ≡ self.entry.buf.now }
+    {
+        let Text { buf: _, at } = self;
+        at
+    }
 }

@@ -1,5 +1,6 @@
 -- A count written into a trailer changes that count alone, and no slot.
 -- Assumes nothing.
+use Rattle.std.specs.Prelude.{Some}
 use Prim.Native.Nat.{ℕ, ◌+◌, ◌-◌, ◌*◌, ◌^◌, ◌≤◌, ◌<◌}
 use mathlib.Core.Path.{◌≡◌, sym, ap, ◌∙◌}
 use mathlib.Core.List.{List}
@@ -12,7 +13,6 @@ use Rattle.slots.proofs.Numbers.{get_or-put_before, length-bytes32, le32-put, le
 use Rattle.board.specs.declared.Board.{Board}
 use Rattle.board.specs.Layout.{layout_of, Sized}
 use Rattle.trailer.specs.declared.Head.{Head}
-use Rattle.trailer.specs.declared.Headed.TheVariants.{Good}
 use Rattle.trailer.specs.Trailer.{board_of, head_of, trailer_of, last16, with_taken, with_delivered}
 use Rattle.trailer.proofs.TrailerLaws.{length-last16, trailer_good, good_trailer}
 
@@ -66,9 +66,9 @@ last_put t i m at long high place =
     ∙ rw there at (drop-put_inside t (length t - 16) i (bytes32 m) (omega arith))
 
 -- a head with other counts is as good
-recounted : (t : List ℕ) {h : Head} (i m at p d : ℕ) → trailer_of t ≡ Good h → i ≤ 12 → at + 16 ≡ length t + i → d ≤ p
+recounted : (t : List ℕ) {h : Head} (i m at p d : ℕ) → trailer_of t ≡ Some h → i ≤ 12 → at + 16 ≡ length t + i → d ≤ p
     → head_of (put (last16 t) i (bytes32 m)) ≡ counting h p d
-    → trailer_of (put t at (bytes32 m)) ≡ Good (counting h p d)
+    → trailer_of (put t at (bytes32 m)) ≡ Some (counting h p d)
 recounted t {h} i m at p d e high place c q =
     let g = trailer_good t e in
     let b = length-bytes32 m in
@@ -84,8 +84,8 @@ recounted t {h} i m at p d e high place c q =
       size_in = omega arith;
     })
 
-pub trailer-with_taken : (t : List ℕ) {h : Head} (m : ℕ) → trailer_of t ≡ Good h → h.delivered ≤ m → m < 2 ^ 32
-    → trailer_of (with_taken t m) ≡ Good (taking h m)
+pub trailer-with_taken : (t : List ℕ) {h : Head} (m : ℕ) → trailer_of t ≡ Some h → h.delivered ≤ m → m < 2 ^ 32
+    → trailer_of (with_taken t m) ≡ Some (taking h m)
 unfolding with_taken
 trailer-with_taken t {h} m e c k =
     let g = trailer_good t e in
@@ -93,8 +93,8 @@ trailer-with_taken t {h} m e c k =
     head-taking (last16 t) (length-last16 t g.long) m k ∙ ap (λ (x : Head). taking x m) (sym g.read) in
     recounted t 4 m (length t - 12) m h.delivered e (omega arith) (omega arith) c r
 
-pub trailer-with_delivered : (t : List ℕ) {h : Head} (m : ℕ) → trailer_of t ≡ Good h → m ≤ h.taken → m < 2 ^ 32
-    → trailer_of (with_delivered t m) ≡ Good (delivering h m)
+pub trailer-with_delivered : (t : List ℕ) {h : Head} (m : ℕ) → trailer_of t ≡ Some h → m ≤ h.taken → m < 2 ^ 32
+    → trailer_of (with_delivered t m) ≡ Some (delivering h m)
 unfolding with_delivered
 trailer-with_delivered t {h} m e c k =
     let g = trailer_good t e in

@@ -1,5 +1,6 @@
 -- A fresh table: how it is made, and that its trailer is good and its slots are empty.
 -- Assumes nothing.
+use Rattle.std.specs.Prelude.{Some}
 use Prim.Native.Nat.{ℕ, ◌+◌, ◌-◌, ◌*◌, ◌<◌, ◌^◌, zero-le}
 use mathlib.Core.Path.{◌≡◌, refl, sym, ap, ◌∙◌}
 use mathlib.Core.List.{List, ◌++◌, append_assoc}
@@ -15,7 +16,6 @@ use Rattle.board.specs.Board.{GoodBoard}
 use Rattle.board.specs.Layout.{layout_of, table_size}
 use Rattle.board.proofs.BoardLaws.{slots_most}
 use Rattle.trailer.specs.declared.Head.{Head}
-use Rattle.trailer.specs.declared.Headed.TheVariants.{Good}
 use Rattle.trailer.specs.Trailer.{head_of, trailer_of, last16, trailer_bytes, fresh}
 use Rattle.trailer.proofs.TrailerLaws.{good_trailer}
 
@@ -64,7 +64,7 @@ last_fresh b =
     let at : length (fresh b) - 16 ≡ n = omega (arith, length_fresh b) in
     rw at (drop_at (blank n) (trailer_bytes b 0 0) n (length-blank n))
 
-pub fresh_good : {b : Board} → GoodBoard b → trailer_of (fresh b) ≡ Good (fresh_head b)
+pub fresh_good : {b : Board} → GoodBoard b → trailer_of (fresh b) ≡ Some (fresh_head b)
 fresh_good {b} g =
     let l : length (fresh b) ≡ table_size b = length_fresh b in
     let z : last16 (fresh b) ≡ trailer_bytes b 0 0 = last_fresh b in

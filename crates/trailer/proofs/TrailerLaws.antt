@@ -1,5 +1,6 @@
 -- What a good trailer says; which bytes it is read of; and that a slot written keeps it.
 -- Assumes nothing.
+use Rattle.std.specs.Prelude.{Option, Some, None}
 use Prim.Native.Nat.{ℕ, ◌+◌, ◌-◌, ◌*◌, ◌≤◌, ◌<◌}
 use mathlib.Core.Path.{◌≡◌, refl, sym, ap, ◌∙◌}
 use mathlib.Core.List.{List, ◌++◌}
@@ -14,22 +15,20 @@ use Rattle.slots.proofs.SlotLaws.{drop-with_slot, length-with_slot}
 use Rattle.board.specs.Layout.{layout_of, Sized}
 use Rattle.board.proofs.Sizes.{board_good, good_board}
 use Rattle.trailer.specs.declared.Head.{Head}
-use Rattle.trailer.specs.declared.Headed.{Headed}
-use Rattle.trailer.specs.declared.Headed.TheVariants.{Good, Bad}
 use Rattle.trailer.specs.Trailer.{head_of, head_ok, trailer_of, last16, GoodTrailer}
 
 pub length-last16 : (s : List ℕ) → 16 ≤ length s → length (last16 s) ≡ 16
 length-last16 s l = rw length-drop (omega arith)
 
 -- a choice with `Bad` for its other arm was taken
-chosen : (b : Bool) (x : Headed) {h : Head} → cond b x Bad ≡ Good h → (b ≡ true) × (x ≡ Good h)
+chosen : (b : Bool) (x : Option Head) {h : Head} → cond b x None ≡ Some h → (b ≡ true) × (x ≡ Some h)
 chosen true x e = (refl, e)
 chosen false x e = clash cc
 
-good : {a b : Head} → Good a ≡ Good b → a ≡ b
+good : {a b : Head} → Some a ≡ Some b → a ≡ b
 good e = cc
 
-pub trailer_good : (s : List ℕ) {h : Head} → trailer_of s ≡ Good h → GoodTrailer s h
+pub trailer_good : (s : List ℕ) {h : Head} → trailer_of s ≡ Some h → GoodTrailer s h
 unfolding head_ok trailer_of
 trailer_good s {h} e =
     let a = chosen _ _ e in
@@ -48,7 +47,7 @@ trailer_good s {h} e =
       size_in = leb-true _ _ n.1;
     }
 
-pub good_trailer : {s : List ℕ} {h : Head} → GoodTrailer s h → trailer_of s ≡ Good h
+pub good_trailer : {s : List ℕ} {h : Head} → GoodTrailer s h → trailer_of s ≡ Some h
 unfolding head_ok trailer_of
 good_trailer {s} g =
     let ok : head_ok (head_of (last16 s)) (length s) ≡ true =
@@ -57,7 +56,7 @@ good_trailer {s} g =
     ∙ and_yes (le-leb _ _ g.counts)
     ∙ and_yes (eq-eqb _ _ g.size_is)
     ∙ le-leb _ _ g.size_in in
-    cond_true _ _ (le-leb _ _ g.long) ∙ cond_true _ _ ok ∙ ap Good (sym g.read)
+    cond_true _ _ (le-leb _ _ g.long) ∙ cond_true _ _ ok ∙ ap Some (sym g.read)
 
 -- ---- the trailer is read of the length and the last 16 bytes alone, and a good one stays good in any slice that its table fits
 
@@ -65,7 +64,7 @@ pub trailer_same : (s u : List ℕ) → length s ≡ length u → last16 s ≡ l
 unfolding trailer_of
 trailer_same s u e d = rw (d, e)
 
-pub trailer_moved : (s u : List ℕ) {h : Head} → trailer_of s ≡ Good h → last16 u ≡ last16 s → h.size ≤ length u → trailer_of u ≡ Good h
+pub trailer_moved : (s u : List ℕ) {h : Head} → trailer_of s ≡ Some h → last16 u ≡ last16 s → h.size ≤ length u → trailer_of u ≡ Some h
 trailer_moved s u e d l =
     let g = trailer_good s e in
     good_trailer
@@ -93,18 +92,18 @@ trailer_before p t long in_table =
       le-leb (head_of (last16 t)).size (length t) in_table,
     )
 
-pub trailer-after : (p t : List ℕ) {h : Head} → trailer_of t ≡ Good h → trailer_of (p ++ t) ≡ Good h
+pub trailer-after : (p t : List ℕ) {h : Head} → trailer_of t ≡ Some h → trailer_of (p ++ t) ≡ Some h
 trailer-after p t e =
     let g = trailer_good t e in
     let q = ap (λ (x : Head). x.size) g.read in
     trailer_before p t g.long (omega arith) ∙ e
 
-module _ (s : List ℕ) {h : Head} (e : trailer_of s ≡ Good h) where
+module _ (s : List ℕ) {h : Head} (e : trailer_of s ≡ Some h) where
   -- of a slice's table
   pub length-table : length (drop (length s - h.size) s) ≡ h.size
   length-table = let g = trailer_good s e in rw length-drop (omega arith)
 
-  pub trailer-table : trailer_of (drop (length s - h.size) s) ≡ Good h
+  pub trailer-table : trailer_of (drop (length s - h.size) s) ≡ Some h
   trailer-table =
       let g = trailer_good s e in
       let at : length s - h.size + (h.size - 16) ≡ length s - 16 = omega arith in
@@ -115,13 +114,13 @@ module _ (s : List ℕ) {h : Head} (e : trailer_of s ≡ Good h) where
   pub table_sized : length s ≡ h.size → Sized h.board s
   table_sized l = let g = trailer_good s e in record { board = g.ranges; full = l ∙ g.size_is }
 
-pub trailer_sized : (s : List ℕ) {h : Head} → trailer_of s ≡ Good h → Sized h.board (drop (length s - h.size) s)
+pub trailer_sized : (s : List ℕ) {h : Head} → trailer_of s ≡ Some h → Sized h.board (drop (length s - h.size) s)
 trailer_sized s {h} e = table_sized (drop (length s - h.size) s) (trailer-table s e) (length-table s e)
 
 -- ---- a slot written
 
-pub trailer-with_slot : (t : List ℕ) {h : Head} (k : ℕ) (v : List ℕ) → trailer_of t ≡ Good h → length t ≡ h.size
-    → k < (layout_of h.board).size → length v ≡ 16 → trailer_of (with_slot t k v) ≡ Good h
+pub trailer-with_slot : (t : List ℕ) {h : Head} (k : ℕ) (v : List ℕ) → trailer_of t ≡ Some h → length t ≡ h.size
+    → k < (layout_of h.board).size → length v ≡ 16 → trailer_of (with_slot t k v) ≡ Some h
 trailer-with_slot t {h} k v e l b lv =
     let n : ℕ = (layout_of h.board).size in
     let full : length t ≡ 16 * n + 16 = (table_sized t e l).full in

@@ -1,12 +1,16 @@
 // The trailer: the last 16 bytes of a lent slice, and the counts in it.
 #![tactic(auto)]
 
-ghost use Rattle.std.specs.Prelude.{◌≡◌, ◌≤◌, ◌<◌, length};
+ghost use Rattle.std.specs.Prelude.{◌≡◌, ◌≤◌, length};
 ghost use Rattle.board.specs.Board.{GoodBoard};
 ghost use Rattle.board.specs.Layout.{table_size};
-ghost use Rattle.trailer.specs.Trailer.{board_of, head_of, head_ok, trailer_of, with_taken, with_delivered, trailer_bytes, fresh};
+ghost use Rattle.trailer.specs.Trailer.{board_of, head_of, head_ok, trailer_of, with_count, trailer_bytes, fresh};
 
 use board::Board;
+
+pub mod headed;
+
+pub use headed::{Table, table_in};
 
 // What a good trailer says. `size` is the table's length in bytes, the trailer's among them.
 #[derive(Clone, Copy)]
@@ -17,10 +21,11 @@ pub struct Head {
     pub size: usize,
 }
 
+// A count in the trailer: of the packets taken in, or of those delivered.
 #[derive(Clone, Copy)]
-pub enum Headed {
-    Good(Head),
-    Bad,
+pub enum Count {
+    Taken,
+    Delivered,
 }
 
 fn board_of(z: &[u8]) -> Board
@@ -28,10 +33,10 @@ fn board_of(z: &[u8]) -> Board
     ensures { result ≡ board_of z.now }
 {
     Board {
-        width: slots::wide(z[0]),
-        height: slots::wide(z[1]),
-        depth: slots::wide(z[2]),
-        profile: slots::wide(z[3]),
+        width: usize::from(z[0]),
+        height: usize::from(z[1]),
+        depth: usize::from(z[2]),
+        profile: usize::from(z[3]),
     }
 }
 
@@ -48,89 +53,61 @@ fn head_of(z: &[u8]) -> Head
 }
 
 // Is the trailer good in a slice of `n` bytes?
+#[tactic(auto, using(board::proofs::Sizes::board_good), unfolding(crate::specs::Trailer::head_ok))]
 fn head_ok(h: Head, n: usize) -> bool
     ensures { result ≡ head_ok h n }
 {
-    let b = h.board;
-    if !board::board_ok(b) {
-        return false;
-    }
-    if h.taken < h.delivered {
-        return false;
-    }
-    let size = board::layout::table_size(b);
-    if h.size != size {
-        return false;
-    }
-    h.size <= n
+    board::board_ok(h.board)
+        && h.delivered <= h.taken
+        && h.size == board::layout::table_size(h.board)
+        && h.size <= n
 }
 
-pub fn trailer(s: &[u8]) -> Headed
+#[tactic(auto, unfolding(crate::specs::Trailer::trailer_of))]
+pub fn trailer(s: &[u8]) -> Option<Head>
     ensures { result ≡ trailer_of s.now }
 {
-    let n = s.len();
-    if n < 16 {
-        return Headed::Bad;
-    }
-    let at = n - 16;
-    let z = &s[at..];
-    let h = head_of(z);
-    if head_ok(h, n) {
-        return Headed::Good(h);
-    }
-    Headed::Bad
+    let at = s.len().checked_sub(16)?;
+    let h = head_of(&s[at..]);
+    if head_ok(h, s.len()) { Some(h) } else { None }
 }
 
-// The count of packets taken in, in the trailer of the table `t`.
-pub fn put_taken(t: &mut [u8], n: u32)
+// Stores a count in the trailer of the table `t`.
+#[tactic(auto, unfolding(crate::specs::Trailer::with_taken, crate::specs::Trailer::with_delivered))]
+pub fn put_count(t: &mut [u8], count: Count, n: u32)
     requires { 16 ≤ length t.old }
-    ensures { t.new ≡ with_taken t.old n }
+    ensures { t.new ≡ with_count count t.old n }
 {
-    let at = t.len() - 12;
-    slots::number::put32(t, at, n);
-}
-
-// The count of packets delivered.
-pub fn put_delivered(t: &mut [u8], n: u32)
-    requires { 16 ≤ length t.old }
-    ensures { t.new ≡ with_delivered t.old n }
-{
-    let at = t.len() - 8;
-    slots::number::put32(t, at, n);
-}
-
-fn byte(x: usize) -> u8
-    requires { x < 256 }
-    ensures { result ≡ x }
-{
-    x as u8
+    let from_end = match count {
+        Count::Taken => 12,
+        Count::Delivered => 8,
+    };
+    slots::number::put32(t, t.len() - from_end, n);
 }
 
 // The trailer of a table into which no packet has been taken.
+#[tactic(auto, using(board::proofs::BoardLaws::slots_most), unfolding(crate::specs::Trailer::trailer_bytes, slots::specs::Bytes::bytes32))]
 fn fresh_trailer(b: Board) -> [u8; 16]
     requires { GoodBoard b }
     ensures { result ≡ trailer_bytes b 0 0 }
 {
-    let n = board::layout::table_size(b);
-    let b0 = (n % 256) as u8;
-    let b1 = (n / 256 % 256) as u8;
-    let b2 = (n / 65536 % 256) as u8;
-    let b3 = (n / 16777216 % 256) as u8;
-    let w = byte(b.width);
-    let h = byte(b.height);
-    let c = byte(b.depth);
-    let p = byte(b.profile);
-    [w, h, c, p, 0, 0, 0, 0, 0, 0, 0, 0, b0, b1, b2, b3]
+    let [s0, s1, s2, s3] = (board::layout::table_size(b) as u32).to_le_bytes();
+    let width = b.width as u8;
+    let height = b.height as u8;
+    let depth = b.depth as u8;
+    let profile = b.profile as u8;
+    [
+        width, height, depth, profile, 0, 0, 0, 0, 0, 0, 0, 0, s0, s1, s2, s3,
+    ]
 }
 
 // Makes `t`, of the table's length, a fresh table. The trailer lies where one more slot would.
+#[tactic(auto, using(crate::proofs::FreshLaws::fresh_made))]
 pub fn clear_table(t: &mut [u8], b: Board)
     requires good_board { GoodBoard b }
     requires t_len { length t.old ≡ table_size b }
     ensures { t.new ≡ fresh b }
 {
-    let z = fresh_trailer(b);
-    let k = board::layout::slots_of(b);
-    slots::zero_all(t);
-    slots::write_slot(t, k, z);
+    t.fill(0);
+    slots::write_slot(t, board::layout::slots_of(b), fresh_trailer(b));
 }

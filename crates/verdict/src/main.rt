@@ -6,7 +6,10 @@ use std::io;
 fn main(rt: HostRuntime) -> io::Result<()> {
     let mut input = listing::input_room();
     let n = reading::read_full(&mut rt.stdin(), &mut input)?;
-    let mut line = [0u8; 59];
-    let l = listing::check_line(&input[..n], &mut line);
-    rt.write_all(&line[..l.length])
+    let mut line = [0; listing::answering::LINE_ROOM];
+    match listing::check_line(&input[..n], &mut line) {
+        Ok(length) => rt.write_all(&line[..length]),
+        // the room is long enough
+        Err(_) => Ok(()),
+    }
 }

@@ -1,10 +1,9 @@
 -- Static traffic first on a link (document 02, order 3; source 003, section VII: "only if no message is waiting in the static buffer associated with the
 -- same link"): when the move of a packet in A gives way to a packet in B.
 -- Assumes nothing.
-use Rattle.std.specs.Prelude.{ℕ, Bool, true, false, ◌&&◌, List}
+use Rattle.std.specs.Prelude.{ℕ, Bool, true, false, ◌&&◌, List, Option}
 use Rattle.network.specs.declared.Kind.{Kind}
 use Rattle.network.specs.declared.Kind.TheVariants.{Waiting, A, B}
-use Rattle.network.specs.declared.Lowest.{Lowest}
 use Rattle.network.specs.declared.Place.{Place}
 use Rattle.network.specs.declared.Lead.{Lead}
 use Rattle.network.specs.declared.Lead.TheVariants.{Hop, Turn, Out, NotOffered}
@@ -32,7 +31,7 @@ abbrev pub hops_at : Head → List ℕ → ℕ → ℕ → Bool
 hops_at h t code k = good_at h t k && is_hop (offer (net_of h.board) (item_in h.board t k) code)
 
 -- the lowest such slot of the node's B queue
-unfoldable pub first_hop_in_b : Head → List ℕ → ℕ → ℕ → Lowest
+unfoldable pub first_hop_in_b : Head → List ℕ → ℕ → ℕ → Option ℕ
 first_hop_in_b h t code node = lowest_with (hops_at h t code) ((layout_of h.board).first (at node B)) ((layout_of h.board).room B)
 
 -- a packet that the rule makes hop from A gives way where there is one

@@ -4,79 +4,55 @@
 ghost use Rattle.std.specs.Prelude.{◌≡◌, true, ◌<◌};
 ghost use Rattle.network.specs.Search.{is_at};
 ghost use Rattle.board.specs.Board.{net_of};
-ghost use Rattle.board.specs.Layout.{layout_of, Sized};
+ghost use Rattle.board.specs.Layout.{layout_of};
 ghost use Rattle.way.specs.Way.{in_a, is_hop, hops_at, first_hop_in_b, gives_way};
 
 use network::{Kind, Lead, Place};
-use trailer::Head;
+use trailer::Table;
 
 fn in_a(kind: Kind) -> bool
     ensures { result ≡ in_a kind }
 {
-    match kind {
-        Kind::Waiting => false,
-        Kind::A => true,
-        Kind::B => false,
-    }
+    matches!(kind, Kind::A)
 }
 
 fn is_hop(lead: Lead) -> bool
     ensures { result ≡ is_hop lead }
 {
-    match lead {
-        Lead::Hop(n) => true,
-        Lead::Turn(k) => false,
-        Lead::Out => false,
-        Lead::NotOffered => false,
-    }
+    matches!(lead, Lead::Hop(_))
 }
 
 // Is the packet of slot `k` good, and does the rule offer it a hop by this code?
-fn hops_at(t: &[u8], h: Head, k: usize, code: u32) -> bool
-    requires sized { Sized h.board t.now }
-    requires k_bound { k < (layout_of h.board).size }
-    ensures { result ≡ hops_at h t.now code k }
+fn hops_at(t: &Table, k: usize, code: u32) -> bool
+    requires { k < (layout_of t.now.head.board).size }
+    ensures { result ≡ hops_at t.now.head t.now.bytes.now code k }
 {
-    if !table::packets::good_at(t, h, k) {
+    if !table::packets::good_at(t, k) {
         return false;
     }
-    let b = h.board;
+    let b = t.head.board;
     let here = board::layout::place_of(b, k);
-    let destination = slots::slot_byte(t, k, 2);
+    let destination = slots::slot_byte(t.bytes, k, 2);
     is_hop(board::rule(b, here, destination, code))
 }
 
 // Does a slot of that node's B queue hold such a packet?
-fn hop_in_b(t: &[u8], h: Head, node: u8, code: u32) -> bool
-    requires sized { Sized h.board t.now }
-    requires node_value { (net_of h.board).valid node ≡ true }
-    ensures { result ≡ is_at (first_hop_in_b h t.now code node) }
+fn hop_in_b(t: &Table, node: u8, code: u32) -> bool
+    requires { (net_of t.now.head.board).valid node ≡ true }
+    ensures { result ≡ is_at (first_hop_in_b t.now.head t.now.bytes.now code node) }
 {
-    let b = h.board;
+    let b = t.head.board;
     let kind = Kind::B;
-    let mut k = board::layout::first_slot(b, Place { node, kind });
-    let end = k + board::layout::room_of(b, kind);
-    while k < end {
-        if hops_at(t, h, k, code) {
-            return true;
-        }
-        k += 1;
-    }
-    false
+    let first = board::layout::first_slot(b, Place { node, kind });
+    let end = first + board::layout::room_of(b, kind);
+    (first..end).any(|k| hops_at(t, k, code))
 }
 
 // Does the packet at `here`, led on by the rule, give way to one in B?
-pub fn gives_way(t: &[u8], h: Head, here: Place, code: u32, lead: Lead) -> bool
-    requires sized { Sized h.board t.now }
-    requires node_value { (net_of h.board).valid here.node ≡ true }
-    ensures { result ≡ gives_way h t.now here code lead }
+#[tactic(auto, unfolding(crate::specs::Way::gives_way))]
+pub fn gives_way(t: &Table, here: Place, code: u32, lead: Lead) -> bool
+    requires { (net_of t.now.head.board).valid here.node ≡ true }
+    ensures { result ≡ gives_way t.now.head t.now.bytes.now here code lead }
 {
-    let kind = here.kind;
-    if !in_a(kind) {
-        return false;
-    }
-    if !is_hop(lead) {
-        return false;
-    }
-    hop_in_b(t, h, here.node, code)
+    in_a(here.kind) && is_hop(lead) && hop_in_b(t, here.node, code)
 }

@@ -1,44 +1,49 @@
 -- An accepted move's packet is good, and its target lies in the table.
-use mathlib.Core.Path.{sym, ap, ◌∙◌}
+use mathlib.Core.Path.{refl, sym, ap, ◌∙◌}
 use native.Mathlib.Omega.{arith}
 use Rattle.board.proofs.BoardLaws.{slots_most, slot_fits}
 use Rattle.table.specs.Calls.{outcome}
 use Rattle.judging.proofs.NamedLaws.{named_good}
-use Rattle.judging.proofs.VerdictLaws.{granted}
+use Rattle.judging.proofs.VerdictLaws.{passed_on, number_not_zero, granted}
 use Rattle.judging.proofs.TargetLaws.{target_within, target_apart, hops_fit}
-use Rattle.router.specs.declared.moving.Moved.{Moved}
+use Rattle.router.specs.Move.{move_answer}
 use Rattle.router.proofs.MovedByVerdict.{verdict_refused, verdict-out, verdict_on}
 use Rattle.router.proofs.moving.move_in_table.Goals as goal
 
-pub returns-then-number-ne0 : goal.returns-then-number-ne0
-returns-then-number-ne0 c =
-    let a = c.args in
-    ap (λ (m : Moved). outcome m a.t.now) c.refused.ensures
-    ∙ sym (verdict_refused a.h a.t.now a.slot a.code _ c.judge_move-v.ensures c.if-number-ne0.true)
+pub returns-in_err-onward : goal.returns-in_err-onward
+returns-in_err-onward c =
+    passed_on (λ r. outcome (move_answer r) c.args.t.now) c.from_residual.result _ c.from_residual.ensures.1
+    ∙ sym (verdict_refused _ _ _ _ _ c.in_err-onward.ensures (number_not_zero _))
 
-pub hand_out-requires : goal.hand_out-requires
-hand_out-requires c =
-    let n = (granted _ _ _ _ _ c.judge_move-v.ensures c.if-number-ne0.false).named in
-    record { sized = c.requires; slot_bound = n.inside; delivered_lt_taken = (named_good n c.requires.board).due }
+pub hand_out-requires-clause-slot_bound : goal.hand_out-requires-clause-slot_bound
+hand_out-requires-clause-slot_bound c =
+    (granted _ _ _ _ _ (rw c.in-Leaves.is at c.in_ok-onward.ensures) refl).named.inside
 
-pub returns-then-v : goal.returns-then-v
-returns-then-v c =
-    let a = c.args in
-    c.hand_out.ensures
-    ∙ sym (verdict-out a.h a.t.now a.slot a.code _ c.judge_move-v.ensures c.if-number-ne0.false c.if-v.true)
+pub hand_out-requires-clause-delivered_lt_taken : goal.hand_out-requires-clause-delivered_lt_taken
+hand_out-requires-clause-delivered_lt_taken c =
+    (named_good (granted _ _ _ _ _ (rw c.in-Leaves.is at c.in_ok-onward.ensures) refl).named c.requires.board).due
+
+pub returns-in-Leaves : goal.returns-in-Leaves
+returns-in-Leaves c =
+    c.hand_out.ensures ∙ sym (verdict-out _ _ _ _ _ (rw c.in-Leaves.is at c.in_ok-onward.ensures) refl refl)
 
 pub carry-requires : goal.carry-requires
 carry-requires c =
-    let v = c.judge_move-v in
-    let stays = c.if-v.false in
-    record { from_in_bounds = slot_fits c.requires _ ((granted _ _ _ _ _ c.judge_move-v.ensures c.if-number-ne0.false).named).inside; to_in_bounds = slot_fits c.requires _ (target_within _ _ _ _ _ c.judge_move-v.ensures c.if-number-ne0.false c.requires.board stays); apart = target_apart _ _ _ _ _ v.ensures c.if-number-ne0.false c.requires.board stays; more_bound = hops_fit _ _ _ _ _ v.ensures c.if-number-ne0.false c.requires.board }
+    let e = rw c.in-Into.is at c.in_ok-onward.ensures in
+    let g = c.requires.board in
+    record {
+      from_in_bounds = slot_fits c.requires _ (granted _ _ _ _ _ e refl).named.inside;
+      to_in_bounds = slot_fits c.requires _ (target_within _ _ _ _ _ e refl g refl);
+      apart = target_apart _ _ _ _ _ e refl g refl;
+      more_bound = hops_fit _ _ _ _ _ e refl g;
+    }
 
 pub overflow_cast-result : goal.overflow_cast-result
 overflow_cast-result c =
-    omega (arith, target_within _ _ _ _ _ c.judge_move-v.ensures c.if-number-ne0.false c.requires.board c.if-v.false, slots_most _ c.requires.board)
+    let e = rw c.in-Into.is at c.in_ok-onward.ensures in
+    let g = c.requires.board in
+    omega (arith, target_within _ _ _ _ _ e refl g refl, slots_most _ g)
 
-pub returns : goal.returns
-returns c =
-    let a = c.args in
-    ap (outcome _) c.carry.ensures
-    ∙ sym (verdict_on a.h a.t.now a.slot a.code _ c.judge_move-v.ensures c.if-number-ne0.false c.if-v.false)
+pub returns-in-Into : goal.returns-in-Into
+returns-in-Into c =
+    ap (outcome _) c.carry.ensures ∙ sym (verdict_on _ _ _ _ _ (rw c.in-Into.is at c.in_ok-onward.ensures) refl refl)

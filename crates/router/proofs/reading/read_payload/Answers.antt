@@ -1,38 +1,49 @@
--- The call on the table lent on, said of the whole slice.
-use Prim.Native.Nat.{ℕ}
-use mathlib.Core.Path.{sym, ap, ◌∙◌}
+-- A named slot's payload is 8 bytes from its byte 8.
+use Prim.Native.Nat.{ℕ, ◌+◌, ◌-◌, ◌*◌}
+use mathlib.Core.Path.{◌≡◌, sym, ap, ◌∙◌}
 use mathlib.Core.List.{List}
-use Rattle.slots.proofs.Parts.{lent_rest}
-use Rattle.trailer.specs.declared.Headed.{Headed}
+use native.Mathlib.Omega.{arith}
+use lib.ListN.{length}
+use Rattle.slots.specs.Bytes.{part}
+use Rattle.slots.specs.Slots.{slot_at}
+use Rattle.slots.proofs.Parts.{lent_part}
+use Rattle.slots.proofs.SlotLaws.{part-slot_at}
+use Rattle.board.proofs.BoardLaws.{slot_fits}
 use Rattle.table.specs.Calls.{Outcome}
-use Rattle.table.proofs.CallLaws.{on_table_bad, on_table_good, start_in, lent_sized}
-use Rattle.router.specs.ReadPayload.{Reading, refusal, read_in, read_slice, further, offset_by, offset_in_slice}
-use Rattle.router.proofs.ReadLaws.{further_none, further-both}
+use Rattle.judging.proofs.NamedLaws.{due_named}
+use Rattle.judging.proofs.VerdictLaws.{passed_on, number_not_zero}
+use Rattle.router.specs.ReadPayload.{Reading, read_answer, further}
+use Rattle.router.proofs.ReadLaws.{read_refused, read_done, offset-done, slice_answers, slice_offset, further-both}
 use Rattle.router.proofs.reading.read_payload.Goals as goal
 
-pub returns-in_default : goal.returns-in_default
-unfolding read_slice offset_in_slice
-returns-in_default c =
-    let a = c.args in
-    let bad = sym c.trailer.ensures ∙ c.in_default.is in
-    record {
-      answer = sym (ap (λ (o : Outcome Reading (List ℕ)). o.answer) (on_table_bad a.s.now refusal (λ h t. read_in h t a.slot) bad));
-      place = further_none a.s.ref_ptr _ (ap (offset_by a.s.now a.slot) bad);
-    }
+pub returns-in_err-slot_due-clause-answer : goal.returns-in_err-slot_due-clause-answer
+returns-in_err-slot_due-clause-answer c =
+    passed_on read_answer c.from_residual-in_err-slot_due.result _ c.from_residual-in_err-slot_due.ensures.1
+    ∙ sym (ap (λ (o : Outcome Reading (List ℕ)). o.answer) (read_refused _ _ _ (sym c.in_err-slot_due.ensures) (number_not_zero _)))
+    ∙ sym (slice_answers c.args.s.now c.args.slot c.in_ok-t.ensures.ok_part c.table_in.ensures.head c.table_in.ensures.bytes)
 
-pub overflow_sub-start : goal.overflow_sub-start
-overflow_sub-start c = start_in _ _ (sym c.in-Good.ensures)
+pub slice_bounds-result-end : goal.slice_bounds-result-end
+slice_bounds-result-end c =
+    let t = c.in_ok-t.t in
+    omega (arith, slot_fits t.sized _ (due_named _ _ _ (sym c.in_ok-slot_due.ensures)).inside)
 
-pub payload_in_table-requires : goal.payload_in_table-requires
-payload_in_table-requires c = lent_sized _ _ (sym c.in-Good.ensures)
+pub returns-clause-answer : goal.returns-clause-answer
+returns-clause-answer c =
+    let t = c.in_ok-t.t in
+    let k : ℕ = c.args.slot in
+    let p : part t.bytes.now (16 * k + 8) 8 ≡ part (slot_at t.bytes.now k) 8 8 = sym (part-slot_at t.bytes.now k 8 8 (omega arith)) in
+    rw (lent_part t.bytes.now (16 * k + 8) 8, p)
+    (sym (ap (λ (o : Outcome Reading (List ℕ)). o.answer) (read_done t.head t.bytes.now k (sym c.in_ok-slot_due.ensures)))
+    ∙ sym (slice_answers c.args.s.now k c.in_ok-t.ensures.ok_part c.table_in.ensures.head c.table_in.ensures.bytes))
 
-pub returns : goal.returns
-unfolding read_slice offset_in_slice
-returns c =
-    let a = c.args in
-    record {
-      answer = c.payload_in_table.ensures.answer ∙ rw (lent_rest a.s.now _) (sym (ap (λ (o : Outcome Reading (List ℕ)). o.answer) (on_table_good a.s.now refusal (λ h t. read_in h t a.slot) _ (sym c.in-Good.ensures))));
-      place = c.payload_in_table.ensures.place
-          ∙ rw (lent_rest a.s.now _)
-          (further-both a.s.ref_ptr _ _ ∙ sym (ap (λ (r : Headed). further a.s.ref_ptr (offset_by a.s.now a.slot r)) (sym c.in-Good.ensures)));
-    }
+pub returns-clause-place : goal.returns-clause-place
+returns-clause-place c =
+    let t = c.in_ok-t.t in
+    let k : ℕ = c.args.slot in
+    let s = c.args.s in
+    let start : ℕ = length s.now - t.head.size in
+    let place = rw c.in_ok-t.ensures.ok_part at c.table_in.ensures.place in
+    ap (λ (p : ℕ × ℕ). further p (16 * k + 8)) place
+    ∙ further-both s.ref_ptr start (16 * k + 8)
+    ∙ ap (further s.ref_ptr)
+    (sym (slice_offset s.now k c.in_ok-t.ensures.ok_part c.table_in.ensures.head c.table_in.ensures.bytes ∙ ap (λ (n : ℕ). n + start) (offset-done t.head t.bytes.now k (sym c.in_ok-slot_due.ensures))))

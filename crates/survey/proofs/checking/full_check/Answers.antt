@@ -1,31 +1,21 @@
--- A good trailer's table is the slice's last bytes.
-use Prim.Native.Nat.{◌-◌}
-use mathlib.Core.Path.{sym, ap, ◌∙◌}
-use lib.ListN.{length}
-use Rattle.slots.proofs.Parts.{lent_rest}
-use Rattle.trailer.proofs.TrailerLaws.{trailer_good, trailer_sized}
-use Rattle.survey.specs.Check.{unless_fault, read_by, checked_in, checked_slice}
-use Rattle.survey.specs.declared.checking.Checked.TheVariants.{Passes, BadTrailer, FaultAt}
+-- What is read of the slice, then the table's check.
+use Rattle.std.proofs.Common.{rules}
+use Rattle.std.specs.Prelude.{Result, Ok, Err, ⊤}
+use mathlib.Core.Path.{◌≡◌, sym, ◌∙◌}
+use Rattle.table.specs.declared.refusals.Refusal.{Refusal}
+use Rattle.table.specs.declared.refusals.Refusal.TheVariants.{Trailer}
+use Rattle.survey.specs.Check.{checked_in, checked_slice}
+use Rattle.survey.proofs.CheckLaws.{call_unread, call_read}
 use Rattle.survey.proofs.checking.full_check.Goals as goal
 
-pub returns-in_default : goal.returns-in_default
-unfolding checked_slice checked_in
-returns-in_default c = ap (read_by c.args.s.now BadTrailer (unless_fault FaultAt (λ h t. Passes))) c.in_default.ensures
-
-pub overflow_sub-start : goal.overflow_sub-start
-overflow_sub-start c = (trailer_good c.args.s.now (sym c.in-Good.ensures)).size_in
-
-pub check_table-requires : goal.check_table-requires
-check_table-requires c =
-    let s = c.args.s.now in
-    let good = sym c.in-Good.ensures in
-    record { sized = rw (lent_rest s (length s - c.in-Good.h.size)) (trailer_sized s good); delivered_le_taken = (trailer_good s good).counts }
+pub returns-in_err-t : goal.returns-in_err-t
+unfolding checked_slice
+returns-in_err-t c =
+    let e : c.from_residual.result ≡ Err Trailer = search rules in
+    e ∙ sym (call_unread {A = Result ⊤ Refusal} Err (λ h t. Ok tt) c.args.s.now c.table_in.ensures.head c.in_err-t.ensures.ok_part)
 
 pub returns : goal.returns
 unfolding checked_slice checked_in
 returns c =
-    let s = c.args.s.now in
-    let h = c.in-Good.h in
-    c.check_table.ensures
-    ∙ ap (checked_in h) (lent_rest s (length s - h.size))
-    ∙ ap (read_by s BadTrailer (unless_fault FaultAt (λ h t. Passes))) c.in-Good.ensures
+    let e = c.table_in.ensures in
+    c.passes.ensures ∙ sym (call_read {A = Result ⊤ Refusal} Err (λ h t. Ok tt) c.args.s.now e.head e.bytes c.in_ok-t.ensures.ok_part)

@@ -1,24 +1,15 @@
-use mathlib.Core.Path.{◌≡◌, refl}
-use native.Mathlib.Omega.{arith}
-use Rattle.network.proofs.Tests.{held, failed}
-use Rattle.survey.proofs.CheckLaws.{held_more, held_same}
+use Rattle.std.proofs.Common.{rules, tests}
+use Rattle.std.proofs.lemmas.Iterator.{YieldsList-from_range}
+use Rattle.std.proofs.lemmas.Iterator.Consumers.{YieldsList-from_filter, count_from_yields_List}
+use mathlib.Core.Path.{◌∙◌}
+use native.Mathlib.Nat.{sub-zero}
+use Rattle.table.specs.Held.{held_at}
+use Rattle.survey.proofs.CheckLaws.{held_counted}
 use Rattle.survey.proofs.checking.held_below.Goals as goal
-use Rattle.survey.proofs.checking.held_below.Goals.{then-held, else-held}
-
-pub loop-k-init : goal.loop-k-init
-loop-k-init c = (omega arith, omega arith, refl)
-
-pub loop-k-preserved : goal.loop-k-preserved
-loop-k-preserved c =
-    let at = c.loop-k in
-    let h = c.held.ensures in
-    elim c.if-held.branch [
-      | then-held w ↦ let e = held_more _ at.k (held h w.if-held.true) in (omega arith, omega arith, omega arith)
-      | else-held w ↦ let e = held_same _ at.k (failed h w.if-held.false) in (omega arith, omega arith, omega arith)
-    ]
 
 pub returns : goal.returns
 returns c =
-    let at = c.loop-k in
-    let e : at.k ≡ c.args.n = omega arith in
-    rw e at at.invariant.2
+    let t = c.args.t.now in
+    count_from_yields_List c.filter.result _ c.count.ensures.ran
+    (YieldsList-from_filter _ (held_at t) (YieldsList-from_range 0 c.args.n c.args.n c.filter.ensures.source (sub-zero c.args.n)) c.filter.ensures.closure (λ x b q k. search (rules, tests)))
+    ∙ held_counted t c.args.n

@@ -1,36 +1,37 @@
--- A good trailer's table is the slice's last bytes.
-use Prim.Native.Nat.{ℕ}
-use mathlib.Core.Path.{sym, ap, ◌∙◌}
+-- What is read of the slice, then the table's check, then the second buffer's length.
+use Rattle.std.proofs.Common.{rules}
+use Rattle.std.specs.Prelude.{Result, Err, ⊤}
+use mathlib.Core.Path.{◌≡◌, sym, ap, ◌∙◌}
 use mathlib.Core.List.{List}
-use Rattle.slots.proofs.Parts.{lent_rest}
-use Rattle.trailer.specs.declared.Headed.{Headed}
-use Rattle.trailer.proofs.TrailerLaws.{trailer_good}
+use Prim.Native.Nat.{ℕ}
+use Rattle.table.specs.declared.refusals.Refusal.{Refusal}
+use Rattle.table.specs.declared.refusals.Refusal.TheVariants.{Trailer}
 use Rattle.table.specs.Calls.{Outcome, outcome}
-use Rattle.table.proofs.CallLaws.{start_in, lent_sized}
-use Rattle.survey.specs.Check.{unless_fault, read_by}
-use Rattle.survey.specs.Copy.{copied_in, copied_unless, copied_slice}
-use Rattle.survey.specs.declared.copying.Copied.{Copied}
-use Rattle.survey.specs.declared.copying.Copied.TheVariants.{BadTrailer, FaultAt}
+use Rattle.survey.specs.Copy.{copied_in, copied_slice}
+use Rattle.survey.proofs.CheckLaws.{call_unread, call_refused, call_passed}
 use Rattle.survey.proofs.copying.copy_outward.Goals as goal
 
--- what the trailer says decides
-abbrev by : List ℕ → List ℕ → Headed → Outcome Copied (List ℕ)
-by s out = read_by s (outcome BadTrailer out) (unless_fault (λ place. outcome (FaultAt place) out) (copied_in out))
+abbrev refused : List ℕ → Refusal → Outcome (Result ⊤ Refusal) (List ℕ)
+refused out e = outcome (Err e) out
 
-pub returns-in_default : goal.returns-in_default
-unfolding copied_slice copied_unless
-returns-in_default c = ap (by c.args.s.now c.args.out.now) c.in_default.ensures
+pub returns-in_err-t : goal.returns-in_err-t
+unfolding copied_slice
+returns-in_err-t c =
+    let out = c.args.out.now in
+    let e : c.from_residual.result ≡ Err Trailer = search rules in
+    ap (λ (r : Result ⊤ Refusal). outcome r out) e ∙ sym (call_unread (refused out) (copied_in out) c.args.s.now c.table_in.ensures.head c.in_err-t.ensures.ok_part)
 
-pub overflow_sub-start : goal.overflow_sub-start
-overflow_sub-start c = start_in _ _ (sym c.in-Good.ensures)
-
-pub copy_table-requires : goal.copy_table-requires
-copy_table-requires c =
-    let good = sym c.in-Good.ensures in
-    record { sized = lent_sized _ _ good; delivered_le_taken = (trailer_good _ good).counts }
+pub returns-in_err-passes : goal.returns-in_err-passes
+unfolding copied_slice
+returns-in_err-passes c =
+    let out = c.args.out.now in
+    let t = c.table_in.ensures in
+    let e : c.from_residual-in_err-passes.result ≡ Err c.in_err-passes.field-0.0 = search rules in
+    ap (λ (r : Result ⊤ Refusal). outcome r out) e ∙ sym (call_refused (refused out) (copied_in out) c.args.s.now t.head t.bytes c.in_ok-t.ensures.ok_part (sym c.in_err-passes.ensures))
 
 pub returns : goal.returns
-unfolding copied_slice copied_unless
+unfolding copied_slice
 returns c =
-    let s = c.args.s.now in
-    c.copy_table.ensures ∙ rw (lent_rest s _) (ap (by s c.args.out.now) c.in-Good.ensures)
+    let out = c.args.out.now in
+    let t = c.table_in.ensures in
+    c.copy_passing.ensures ∙ sym (call_passed (refused out) (copied_in out) c.args.s.now t.head t.bytes c.in_ok-t.ensures.ok_part (sym c.in_ok-passes.ensures))

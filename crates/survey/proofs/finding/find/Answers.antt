@@ -1,29 +1,32 @@
--- The search in the table lent on, said of the whole slice.
-use mathlib.Core.Path.{sym, ap, ◌∙◌}
-use Rattle.slots.proofs.Parts.{lent_rest}
-use Rattle.trailer.proofs.TrailerLaws.{trailer_good}
-use Rattle.table.proofs.CallLaws.{start_in, lent_sized}
-use Rattle.survey.specs.Check.{unless_fault, read_by}
-use Rattle.survey.specs.Find.{found_in, found_unless, found_slice}
-use Rattle.survey.specs.declared.finding.Found.TheVariants.{BadTrailer, FaultAt}
+-- What is read of the slice, then the table's check, then the search in the table.
+use Rattle.std.proofs.Common.{rules}
+use Rattle.std.specs.Prelude.{Result, Err}
+use mathlib.Core.Path.{◌≡◌, sym, ◌∙◌}
+use Rattle.table.specs.declared.refusals.Refusal.{Refusal}
+use Rattle.table.specs.declared.refusals.Refusal.TheVariants.{Trailer}
+use Rattle.survey.specs.declared.finding.Move.{Move}
+use Rattle.survey.specs.Find.{found_in, found_slice}
+use Rattle.survey.proofs.CheckLaws.{call_unread, call_refused, call_passed}
 use Rattle.survey.proofs.finding.find.Goals as goal
 
-pub returns-in_default : goal.returns-in_default
-unfolding found_slice found_unless
-returns-in_default c = ap (read_by c.args.s.now BadTrailer (unless_fault FaultAt found_in)) c.in_default.ensures
+abbrev refused : Refusal → Result Move Refusal
+refused e = Err e
 
-pub overflow_sub-start : goal.overflow_sub-start
-overflow_sub-start c = start_in _ _ (sym c.in-Good.ensures)
+pub returns-in_err-t : goal.returns-in_err-t
+unfolding found_slice
+returns-in_err-t c =
+    let e : c.from_residual.result ≡ Err Trailer = search rules in
+    e ∙ sym (call_unread refused found_in c.args.s.now c.table_in.ensures.head c.in_err-t.ensures.ok_part)
 
-pub find_in_table-requires : goal.find_in_table-requires
-find_in_table-requires c =
-    let good = sym c.in-Good.ensures in
-    record { sized = lent_sized _ _ good; delivered_le_taken = (trailer_good _ good).counts }
+pub returns-in_err-passes : goal.returns-in_err-passes
+unfolding found_slice
+returns-in_err-passes c =
+    let t = c.table_in.ensures in
+    let e : c.from_residual-in_err-passes.result ≡ Err c.in_err-passes.field-0.0 = search rules in
+    e ∙ sym (call_refused refused found_in c.args.s.now t.head t.bytes c.in_ok-t.ensures.ok_part (sym c.in_err-passes.ensures))
 
 pub returns : goal.returns
-unfolding found_slice found_unless
+unfolding found_slice
 returns c =
-    let s = c.args.s.now in
-    c.find_in_table.ensures
-    ∙ ap (unless_fault FaultAt found_in c.in-Good.h) (lent_rest s _)
-    ∙ ap (read_by s BadTrailer (unless_fault FaultAt found_in)) c.in-Good.ensures
+    let t = c.table_in.ensures in
+    c.first_move.ensures ∙ sym (call_passed refused found_in c.args.s.now t.head t.bytes c.in_ok-t.ensures.ok_part (sym c.in_ok-passes.ensures))

@@ -6,7 +6,7 @@ use Rattle.survey.specs.Find.{movable, move_at, found_in}
 use Rattle.survey.proofs.finding.first_move.Given as goal
 
 abbrev pub invariant-loop-slot : goal.invariant-loop-slot
-invariant-loop-slot l = found_in l.h l.t ≡ move_at l.h l.t (lowest_with (movable l.h l.t) l.slot (l.n - l.slot))
-
-abbrev pub decreases-loop-slot : goal.decreases-loop-slot
-decreases-loop-slot l = l.n - l.slot
+invariant-loop-slot l =
+    let h = l.t.head in
+    let t = l.t.bytes.now in
+    found_in h t ≡ move_at h t (lowest_with (movable h t) l.slot (l.n - l.slot))

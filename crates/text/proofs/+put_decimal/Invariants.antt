@@ -1,5 +1,0 @@
--- The call puts the digits before the last, and the last byte follows them.
-use Rattle.text.proofs.+put_decimal.Given as goal
-
-abbrev pub decreases-put_decimal : goal.decreases-put_decimal
-decreases-put_decimal l = l.n

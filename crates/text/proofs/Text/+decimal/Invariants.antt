@@ -1,0 +1,4 @@
+use Rattle.text.proofs.Text.+decimal.Given as goal
+
+abbrev pub decreases-decimal : goal.decreases-decimal
+decreases-decimal l = l.n
