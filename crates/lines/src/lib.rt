@@ -2,7 +2,6 @@
 #![tactic(auto, using(text::proofs::PutLaws::writing), unfolding(crate::specs::Line::grid_text, crate::specs::Line::counts_text, crate::specs::Line::profile_text, crate::specs::Line::head_line, crate::specs::Line::node_text, crate::specs::Line::place_text, crate::specs::Line::packet_text, crate::specs::Line::slot_line, crate::specs::Line::last_line))]
 
 ghost use Rattle.std.specs.Prelude.{◌≡◌, ◌∷◌, [], ◌++◌, ◌-◌, ◌≤◌, ◌<◌};
-ghost use Rattle.board.specs.Board.{GoodBoard};
 ghost use Rattle.board.specs.Layout.{layout_of};
 ghost use Rattle.table.specs.Held.{held_below};
 ghost use Rattle.text.specs.Put.{Takes, added};
@@ -18,11 +17,11 @@ use trailer::{Head, Table};
 // Room for the longest text, 226,637 bytes: a slot's line has at most 59, the head line 67, the last line 10.
 pub const ROOM: usize = 3840 * 59 + 67 + 10;
 
-fn put_grid(text: &mut Text, board: Board)
-    requires good_board { GoodBoard board }
-    requires takes { Takes text.old (grid_text board) }
-    ensures { text.new ≡ added text.old (grid_text board) }
+fn put_grid(text: &mut Text, t: &Table)
+    requires { Takes text.old (grid_text t.now.head.board) }
+    ensures { text.new ≡ added text.old (grid_text t.now.head.board) }
 {
+    let board = t.head.board;
     text.word_decimal(b"grid ", board.width as u32);
     text.word_decimal(b" ", board.height as u32);
     text.word_decimal(b" depth ", board.depth as u32);
@@ -39,24 +38,23 @@ fn put_counts(text: &mut Text, h: Head)
 // The profile of which a head line says nothing.
 const UNSAID: usize = 0;
 
-fn put_profile(text: &mut Text, profile: usize)
-    requires profile_bound { profile ≤ 2 }
-    requires takes { Takes text.old (profile_text profile) }
-    ensures { text.new ≡ added text.old (profile_text profile) }
+fn put_profile(text: &mut Text, t: &Table)
+    requires { Takes text.old (profile_text t.now.head.board.profile) }
+    ensures { text.new ≡ added text.old (profile_text t.now.head.board.profile) }
 {
+    let profile = t.head.board.profile;
     if profile != UNSAID {
         text.word_decimal(b" profile ", profile as u32);
     }
 }
 
-fn put_head(text: &mut Text, h: Head)
-    requires good_board { GoodBoard h.board }
-    requires takes { Takes text.old (head_line (top_of h)) }
-    ensures { text.new ≡ added text.old (head_line (top_of h)) }
+fn put_head(text: &mut Text, t: &Table)
+    requires { Takes text.old (head_line (top_of t.now.head)) }
+    ensures { text.new ≡ added text.old (head_line (top_of t.now.head)) }
 {
-    put_grid(text, h.board);
-    put_counts(text, h);
-    put_profile(text, h.board.profile);
+    put_grid(text, t);
+    put_counts(text, t.head);
+    put_profile(text, t);
     text.byte(b'\n');
 }
 
@@ -71,14 +69,15 @@ fn letter_of(kind: Kind) -> u8
     }
 }
 
+// A text and a board go side by side below: a struct of the two would be made once, and taken apart in each function.
 fn put_node(text: &mut Text, board: Board, n: u8)
     requires { Takes text.old (node_text board n) }
     ensures { text.new ≡ added text.old (node_text board n) }
 {
     let c = board::coordinates_of(board, n);
-    text.decimal(c.x as u32);
+    text.decimal(u32::from(c.x));
     text.byte(b',');
-    text.decimal(c.y as u32);
+    text.decimal(u32::from(c.y));
 }
 
 // A word, and a node after it.
@@ -106,7 +105,7 @@ fn put_packet(text: &mut Text, board: Board, f: Fields)
 {
     put_word_node(text, b" from ", board, f.source);
     put_word_node(text, b" to ", board, f.destination);
-    text.word_decimal(b" hops ", f.hops as u32);
+    text.word_decimal(b" hops ", u32::from(f.hops));
     text.word_decimal(b" serial ", f.serial);
 }
 
@@ -160,7 +159,7 @@ pub fn put_table(text: &mut Text, t: &Table)
     requires takes { Takes text.old (table_text t.now.head t.now.bytes.now) }
     ensures { text.new ≡ added text.old (table_text t.now.head t.now.bytes.now) }
 {
-    put_head(text, t.head);
+    put_head(text, t);
     put_rows(text, t);
     put_last(text, t.head.taken.saturating_sub(t.head.delivered));
 }

@@ -1,6 +1,6 @@
 -- Laws of what is printed: which of its texts, by the input's length and its trailer; and a text in a buffer that has room.
 -- Assumes nothing.
-use Rattle.std.specs.Prelude.{Option, Some, None, Ok, Err, IfSome, option_map}
+use Rattle.std.specs.Prelude.{Some, None, Result, Ok, Err, IfOk, IfErr}
 use Prim.Native.Nat.{ℕ, ◌-◌, ◌≤◌, ◌<◌}
 use mathlib.Core.Path.{◌≡◌, sym, ◌∙◌}
 use mathlib.Core.List.{List}
@@ -9,13 +9,16 @@ use lib.ListN.{length, drop}
 use borrow.Author.Tests.{lt-ltb, le-ltb}
 use denote.Ref.{MutBor}
 use Rattle.network.proofs.Tests.{cond_true, cond_false}
+use Rattle.board.specs.Layout.{layout_of}
 use Rattle.trailer.specs.declared.headed.Table.{Table}
 use Rattle.trailer.specs.Trailer.{trailer_of}
-use Rattle.table.specs.declared.refusals.Refusal.TheVariants.{Trailer, Buffer}
+use Rattle.table.specs.declared.refusals.Refusal.{Refusal}
+use Rattle.table.specs.declared.refusals.Refusal.TheVariants.{Buffer}
 use Rattle.table.specs.Refusals.{trailer_not_good, number_of}
+use Rattle.table.specs.Held.{held_below}
 use Rattle.table.specs.Calls.{outcome}
-use Rattle.survey.specs.Check.{fault_in, fault_or, on_passing, checked_slice}
-use Rattle.survey.proofs.CheckLaws.{called, call_unread, call_read}
+use Rattle.survey.specs.Check.{fault_in, on_passing, checked_slice}
+use Rattle.survey.proofs.CheckLaws.{called, call_refused, call_passed, fault_none}
 use Rattle.text.specs.Put.{added, begun}
 use Rattle.lines.specs.Lines.{table_text}
 use Rattle.listing.specs.Output.{most, refusal_line, fault_line, refusal_words, verdict_line, listing, verdict, into}
@@ -41,13 +44,22 @@ module _ (s : List ℕ) where
   unfolding number_of
   listing_called l = listing_read l
 
-  module _ (l : length s ≤ most) {r : Option Table} (head : option_map (λ t. t.head) r ≡ trailer_of s) where
-    pub listing_bad : r ≡ None → listing s ≡ refusal_words Trailer
-    listing_bad e = listing_called l ∙ call_unread refusal_words table_text s head e
+  -- by what is answered where a table that passes is asked for
+  pub refusal_told : (r : Result Table Refusal) → length s ≤ most → IfErr r (λ e. checked_slice s ≡ Err e) → IfErr r (λ e. listing s ≡ refusal_words e)
+  refusal_told (Err e) l q = listing_called l ∙ call_refused refusal_words table_text s q
+  refusal_told (Ok t) l q = tt
 
-    pub listing_good : {t : Table} → IfSome r (λ t. t.bytes.now ≡ drop (length s - t.head.size) s) → r ≡ Some t
-        → listing s ≡ fault_or fault_line (table_text t.head t.bytes.now) (fault_in t.head t.bytes.now)
-    listing_good bytes e = listing_called l ∙ call_read refusal_words table_text s head bytes e
+  pub table_told : (r : Result Table Refusal) → length s ≤ most → IfOk r (λ t. trailer_of s ≡ Some t.head)
+      → IfOk r (λ t. t.bytes.now ≡ drop (length s - t.head.size) s)
+      → IfOk r (λ t. fault_in t.head t.bytes.now ≡ None)
+      → IfOk r (λ t. listing s ≡ table_text t.head t.bytes.now)
+  table_told (Ok t) l e b f = listing_called l ∙ call_passed refusal_words table_text s e b f
+  table_told (Err x) l e b f = tt
+
+pub counts_agree : (r : Result Table Refusal) → IfOk r (λ t. fault_in t.head t.bytes.now ≡ None)
+    → IfOk r (λ t. t.head.taken - t.head.delivered ≡ held_below t.bytes.now (layout_of t.head.board).size)
+counts_agree (Ok t) f = (fault_none t.head t.bytes.now f).counted
+counts_agree (Err x) f = tt
 
 -- what is answered and what the buffer holds, with and without room
 module _ (need : ℕ) (t : List ℕ) where

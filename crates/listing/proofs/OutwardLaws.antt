@@ -75,11 +75,11 @@ module _ (s : List ℕ) where
         unfolding copied_in
         copied_all f = copied_is None f ∙ cond_true _ _ (eq-eqb _ _ (m ∙ sym (length-table s e)))
 
-        pub sent_refused : {x : Refusal} → c ≡ Err x → (sent_of s ≡ words_alone (verdict s)) × (b ≡ o)
-        sent_refused {x} k = go (fault_in h table) refl
+        pub sent_refused : (c ≡ Ok tt → ⊥) → (sent_of s ≡ words_alone (verdict s)) × (b ≡ o)
+        sent_refused k = go (fault_in h table) refl
           where
             go : (x : Option ℕ) → fault_in h table ≡ x → (sent_of s ≡ words_alone (verdict s)) × (b ≡ o)
-            go None f = let done = (both _ (copied_all f) refl).0 in clash cc
+            go None f = absurd (k (both _ (copied_all f) refl).0)
             go (Some place) f = (sent_is (Some place) f, (both _ (copied_is (Some place) f) refl).1)
 
         pub sent-done : c ≡ Ok tt → (sent_of s ≡ copy_alone b) × (length b ≡ h.size)

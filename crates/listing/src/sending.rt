@@ -15,6 +15,7 @@ use text::Text;
 pub const COPY_ROOM: usize = 61456;
 
 // How much of one of the two buffers is to be sent.
+// Lengths and no slices: copy_value and words_value of send_outward speak of them.
 #[derive(Clone, Copy)]
 pub enum Sent {
     Copy(usize),

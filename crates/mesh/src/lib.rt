@@ -68,7 +68,7 @@ pub fn is_code(code: u32) -> bool
     (1..=LAST_CODE).contains(&code)
 }
 
-// The profile of a number. Total and no `TryFrom`: `net_of` answers for a board of any number, and may not change; those above 2 are on no good board.
+// The profile of a number; those above 2 are on no good board. No `TryFrom`, since `net_of` answers for any number, and no `From`: `profile_of_determined` is of this.
 #[tactic(auto, unfolding(crate::specs::Rule::profile_of))]
 pub fn profile_of(number: usize) -> Profile
     ensures { result ≡ profile_of number }
@@ -80,7 +80,7 @@ pub fn profile_of(number: usize) -> Profile
     }
 }
 
-// A code comes as a number from the chip that proposes moves, and is one until here: the promises say what is answered to each number.
+// A code is a number until here, as it is proposed: `is_code` and `unknown_never` speak of each. A `TryFrom`'s error would say no more than None.
 #[tactic(auto, unfolding(crate::specs::Rule::step_of))]
 fn step_of(code: u32) -> Option<Step>
     ensures { result ≡ step_of code }
@@ -126,7 +126,7 @@ fn arrived(s: Signs) -> bool
     !s.right && !s.left && !s.up && !s.down
 }
 
-// Document 01's third column. Left and Down in A are the dynamic hops.
+// Document 01's third column. Left and Down in A are the dynamic hops. Step, signs and kind side by side, as `offers`, `is_chosen` and `keeps` have them.
 fn offered(step: Step, s: Signs, kind: Kind) -> bool
     ensures { result ≡ offers step s kind }
 {

@@ -10,6 +10,7 @@ ghost use Rattle.router.specs.TakeIn.{take_answer};
 ghost use Rattle.router.specs.Move.{move_answer};
 ghost use Rattle.router.specs.ReadPayload.{read_slice};
 ghost use Rattle.survey.specs.Check.{check_answer, checked_slice};
+ghost use Rattle.survey.specs.Copy.{copy_answer};
 ghost use Rattle.survey.specs.Find.{find_answer, found_slice};
 ghost use Rattle.listing.specs.Output.{list_answer};
 ghost use Rattle.paneglove.specs.Across.{
@@ -20,6 +21,7 @@ ghost use Rattle.paneglove.specs.Across.{
   read_across,
   check_across,
   find_across,
+  copy_across,
   copied_across,
   list_across,
   listed_across,
@@ -165,6 +167,15 @@ pub struct Copied {
     pub place: u32,
 }
 
+impl From<Result<(), Refusal>> for Copied {
+    ghost from_gives = { λ r a. a ≡ copy_across (copy_answer r) };
+
+    fn from(r: Result<(), Refusal>) -> Copied {
+        let Checked { number, place } = Checked::from(r);
+        Copied { number, place }
+    }
+}
+
 #[repr(C)]
 #[derive(Clone, Copy)]
 pub struct Listed {
@@ -251,11 +262,7 @@ pub fn paneglove_find(s: &[u8]) -> Found
 pub fn paneglove_copy_outward(s: &[u8], out: &mut [u8]) -> Copied
     ensures { outcome result out.new ≡ copied_across s.now out.old }
 {
-    let a = Checked::from(survey::copy_outward(s, out));
-    Copied {
-        number: a.number,
-        place: a.place,
-    }
+    Copied::from(survey::copy_outward(s, out))
 }
 
 // Refuses by 9 where the second buffer is shorter than the room, 226,637 bytes. Else the listing stands at its start, a refused table's in the

@@ -1,4 +1,5 @@
 // The commands that make a call: each makes it, and writes the answer as a line. A refusal is its number and its place, and zeros.
+// The printer stands beside the slice: a struct of the two, as `cases` has, would be made anew for each command of two lent buffers, and be no plainer.
 use crate::hexadecimal::Hexadecimal;
 use std::io;
 use table::Refusal;

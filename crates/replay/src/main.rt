@@ -13,7 +13,7 @@ use std::io;
 const MOST: usize = 65536;
 
 fn main(rt: HostRuntime) -> io::Result<()> {
-    // one byte more shows that a script is too long
+    // no heap: how much of it is read stands beside it, and one byte more shows that a script is too long
     let mut bytes = [0u8; MOST + 1];
     let size = reading::read_full(&mut rt.stdin(), &mut bytes)?;
     if MOST < size {

@@ -7,7 +7,7 @@ ghost use Rattle.router.specs.Clear.{asked, depth_used, cleared_as, cleared_slic
 use board::Board;
 use table::Refusal;
 
-// The depth where it is left out, which a caller does by 0: the papers have no other way, and every number is answered.
+// The depth where it is left out, which a caller does by 0: `asked`, of the contract of `clear`, and `paneglove_clear` have numbers.
 const DEPTH_LEFT_OUT: usize = 5;
 
 fn depth_used(depth: u32) -> usize
@@ -33,7 +33,7 @@ fn clear_as(s: &mut [u8], b: Board) -> Result<(), Refusal>
     Ok(())
 }
 
-// Makes the slice's last part a fresh table; depth 0 means 5.
+// Makes the slice's last part a fresh table; depth 0 means 5. Four numbers and no struct: `asked` and C's `paneglove_clear` have them so.
 // Refusals: 8 where a size or the profile is not accepted, 9 where the slice is shorter than the table.
 #[tactic(auto, unfolding(crate::specs::Clear::cleared_slice))]
 pub fn clear(s: &mut [u8], width: u32, height: u32, depth: u32, profile: u32) -> Result<(), Refusal>

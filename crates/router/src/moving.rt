@@ -8,7 +8,8 @@ use judging::Onward;
 use table::Refusal;
 use trailer::{Count, Head, Table};
 
-// `packet` is the packet handed out, or 16 zeros where it goes on, to `slot`.
+// `packet` is the packet handed out, or 16 zeros where it goes on, to `slot`. No enum: `move_answer` tells the result, for `make_move_determined`, and a packet gone
+// into slot 0 and one of 16 zeros handed out would have one answer.
 #[derive(Clone, Copy)]
 pub struct Moved {
     pub slot: u32,
@@ -16,8 +17,7 @@ pub struct Moved {
     pub left: u32,
 }
 
-// The packet of a slot is handed out, and one more is delivered. The table is a slice here and below, and in `taking`: it is written, and a `Table` that holds
-// it to be written would be made anew to be read, and be no plainer.
+// The packet of a slot is handed out, and one more is delivered. The table is a slice where it is written: a `Table` would be made anew to read it, no plainer.
 #[tactic(auto, unfolding(crate::specs::Move::handed_out))]
 fn hand_out(t: &mut [u8], head: Head, slot: usize) -> Moved
     requires sized { Sized head.board t.old }
@@ -66,10 +66,12 @@ fn move_in_table(t: &mut [u8], head: Head, slot: u32, code: u32) -> Result<Moved
 // packet went into, or, at a delivery, in the one that it left.
 // Refusals: 1 trailer not good; 2 no such slot or code; 3 the slot is empty; 4 it is spoiled; 5 the rule doesn't offer the move; 12 a good
 // packet in the node's B queue goes first on the link; 6 the target queue has no empty slot.
+// Slot and code stand side by side, here and below, as `moved_slice` and C's `paneglove_make_move` have them.
 #[tactic(auto, using(table::proofs::CallLaws::on_table_bad, table::proofs::CallLaws::start_in, table::proofs::CallLaws::lent_sized, trailer::proofs::TrailerLaws::trailer_good), unfolding(crate::specs::Move::moved_slice, table::specs::Refusals::number_of))]
 pub fn make_move(s: &mut [u8], slot: u32, code: u32) -> Result<Moved, Refusal>
     ensures { outcome (move_answer result) s.new ≡ moved_slice s.old slot code }
 {
+    // As in `take_in`: a function for both would hand back the part to be written with its head, which no `Table` holds, and be no plainer.
     let head = trailer::trailer(s).ok_or(Refusal::Trailer)?;
     let start = s.len() - head.size;
     move_in_table(&mut s[start..], head, slot, code)

@@ -26,6 +26,7 @@ fn new_record(source: u8, destination: u8, serial: u32, payload: [u8; 8]) -> [u8
     packet
 }
 
+// The table is a slice where it is written, as in `hand_out`.
 fn take_in_table(
     t: &mut [u8],
     head: Head,
@@ -50,6 +51,7 @@ fn take_in_table(
 
 // Takes a packet in at its source; its serial is the count of packets taken in before. `left` slots of the queue are then empty: none.
 // Refusals: 1 trailer not good; 2 source or destination off the board; 7 taken is 4,294,967,295; 6 the waiting slot is held.
+// Source, destination and payload stand side by side, here and below, as `taken_slice` and C's `paneglove_take_in` have them.
 #[tactic(auto, using(table::proofs::CallLaws::on_table_bad, table::proofs::CallLaws::start_in, table::proofs::CallLaws::lent_sized, trailer::proofs::TrailerLaws::trailer_good), unfolding(crate::specs::TakeIn::taken_slice, table::specs::Refusals::number_of))]
 pub fn take_in(
     s: &mut [u8],

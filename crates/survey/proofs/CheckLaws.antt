@@ -1,6 +1,6 @@
 -- The full check's searches: what they find together, and a turn of the loops that count held slots and look for a serial.
 -- Assumes nothing.
-use Rattle.std.specs.Prelude.{Option, Some, None, Ok, Err, option_map, IfSome}
+use Rattle.std.specs.Prelude.{Option, Some, None, Result, Ok, Err, ⊤, option_map, IfSome}
 use Prim.Native.Nat.{ℕ, zero, suc, ◌+◌, ◌-◌, ◌≤◌, ◌<◌}
 use mathlib.Core.Path.{◌≡◌, refl, sym, ap, ◌∙◌}
 use mathlib.Core.List.{List}
@@ -44,6 +44,7 @@ use Rattle.survey.specs.Check.{
   on_passing,
   fault_in,
   checked_in,
+  checked_slice,
 }
 
 -- ---- the first fault
@@ -127,7 +128,25 @@ module _ (h : Head) (t : List ℕ) where
   unfolding checked_in
   fault_passes e = ap (fault_or (λ place. Err (Fault place)) (Ok tt)) e
 
--- ---- a call on a table that passes, by what is read of the slice and by the check's answer
+-- ---- the check of a slice, by what is read of it
+
+module _ (s : List ℕ) where
+  abbrev by_trailer : Option Head → Result ⊤ Refusal
+  by_trailer = read_by s (Err Trailer) (unless_fault (λ place. Err (Fault place)) (λ h t. Ok tt))
+
+  module _ {r : Option Table} (head : option_map (λ t. t.head) r ≡ trailer_of s) where
+    pub slice_unread : r ≡ None → checked_slice s ≡ Err Trailer
+    unfolding checked_slice
+    slice_unread e = ap by_trailer (sym head ∙ ap (option_map (λ t. t.head)) e)
+
+    pub slice_read : {t : Table} → IfSome r (λ t. t.bytes.now ≡ drop (length s - t.head.size) s) → r ≡ Some t
+        → checked_slice s ≡ checked_in t.head t.bytes.now
+    unfolding checked_slice checked_in
+    slice_read {t} bytes e =
+        ap by_trailer (sym head ∙ ap (option_map (λ t. t.head)) e)
+        ∙ ap (unless_fault (λ place. Err (Fault place)) (λ h t. Ok tt) t.head) (sym (rw e at bytes))
+
+-- ---- a call on a table that passes, by the check's answer
 
 module _ {A : Type 0} (refused : Refusal → A) (passed : Head → List ℕ → A) (s : List ℕ) where
   abbrev fault : ℕ → A
@@ -139,26 +158,21 @@ module _ {A : Type 0} (refused : Refusal → A) (passed : Head → List ℕ → 
   abbrev pub called : A
   called = on_passing s (refused Trailer) (λ place. refused (Fault place)) passed
 
-  module _ {r : Option Table} (head : option_map (λ t. t.head) r ≡ trailer_of s) where
-    pub call_unread : r ≡ None → called ≡ refused Trailer
-    call_unread e = ap by (sym head ∙ ap (option_map (λ t. t.head)) e)
+  pub call_refused : {e : Refusal} → checked_slice s ≡ Err e → called ≡ refused e
+  unfolding checked_slice
+  call_refused {e} q = read (trailer_of s) q
+    where
+      found : (a : A) (f : Option ℕ) → fault_or (λ place. Err (Fault place)) (Ok (tt {0})) f ≡ Err e → fault_or fault a f ≡ refused e
+      found a (Some k) q = cc
+      found a None q = clash cc
 
-    module _ {t : Table} (bytes : IfSome r (λ t. t.bytes.now ≡ drop (length s - t.head.size) s)) (e : r ≡ Some t) where
-      pub call_read : called ≡ unless_fault (λ place. refused (Fault place)) passed t.head t.bytes.now
-      call_read =
-          ap by (sym head ∙ ap (option_map (λ t. t.head)) e)
-          ∙ ap (unless_fault fault passed t.head) (sym (rw e at bytes))
+      read : (x : Option Head) → read_by s (Err Trailer) (unless_fault (λ place. Err (Fault place)) (λ h t. Ok (tt {0}))) x ≡ Err e → by x ≡ refused e
+      read (Some h) q = found _ (fault_in h (drop (length s - h.size) s)) q
+      read None q = cc
 
-      pub call_refused : {x : Refusal} → checked_in t.head t.bytes.now ≡ Err x → called ≡ refused x
-      unfolding checked_in
-      call_refused {x} q = call_read ∙ go (fault_in t.head t.bytes.now) q
-        where
-          go : (f : Option ℕ) → fault_or (λ place. Err (Fault place)) (Ok (tt {0})) f ≡ Err x → fault_or fault (passed t.head t.bytes.now) f ≡ refused x
-          go (Some k) q = cc
-          go None q = clash cc
-
-      pub call_passed : checked_in t.head t.bytes.now ≡ Ok tt → called ≡ passed t.head t.bytes.now
-      call_passed q = call_read ∙ ap (fault_or fault (passed t.head t.bytes.now)) (passes_fault t.head t.bytes.now q)
+  pub call_passed : {h : Head} {t : List ℕ} → trailer_of s ≡ Some h → t ≡ drop (length s - h.size) s → fault_in h t ≡ None → called ≡ passed h t
+  call_passed {h} {t} e b f =
+      ap by e ∙ ap (unless_fault fault passed h) (sym b) ∙ ap (fault_or fault (passed h t)) f
 
 -- ---- held slots counted, and their serials looked for
 

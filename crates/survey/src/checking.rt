@@ -1,8 +1,9 @@
 // The full check: it names its first fault.
-ghost use Rattle.std.specs.Prelude.{◌≡◌, ◌+◌, ◌*◌, ◌≤◌, ◌<◌, length};
+ghost use Rattle.std.specs.Prelude.{◌≡◌, ◌+◌, ◌-◌, ◌*◌, ◌≤◌, ◌<◌, length, drop, Some, None, Err, IfOk, IfErr};
 ghost use Rattle.board.specs.Layout.{layout_of};
+ghost use Rattle.trailer.specs.Trailer.{trailer_of};
 ghost use Rattle.table.specs.Held.{held_at, held_below};
-ghost use Rattle.survey.specs.Check.{spoiled_at, first_spoiled, has_serial, repeats_at, first_repeat, miscount, fault_in, checked_in, checked_slice};
+ghost use Rattle.survey.specs.Check.{spoiled_at, first_spoiled, has_serial, repeats_at, first_repeat, miscount, fault_in, checked_slice};
 ghost use Rattle.survey.specs.Met.{Met};
 
 use table::Refusal;
@@ -104,13 +105,18 @@ pub fn first_fault(t: &Table) -> Option<usize>
     miscounted(t)
 }
 
-#[tactic(auto, unfolding(crate::specs::Check::checked_in))]
-pub(crate) fn passes(t: &Table) -> Result<(), Refusal>
-    ensures { result ≡ checked_in t.now.head t.now.bytes.now }
+// The table of a slice, if it passes.
+// Refusals: 1 trailer not good; 10 a fault.
+pub fn passing(s: &[u8]) -> Result<Table<'_>, Refusal>
+    ensures refused { IfErr result (λ e. checked_slice s.now ≡ Err e) }
+    ensures head { IfOk result (λ t. trailer_of s.now ≡ Some t.head) }
+    ensures bytes { IfOk result (λ t. t.bytes.now ≡ drop (length s.now - t.head.size) s.now) }
+    ensures faultless { IfOk result (λ t. fault_in t.head t.bytes.now ≡ None) }
 {
-    match first_fault(t) {
+    let t = trailer::table_in(s).ok_or(Refusal::Trailer)?;
+    match first_fault(&t) {
         Some(place) => Err(Refusal::Fault(place as u32)),
-        None => Ok(()),
+        None => Ok(t),
     }
 }
 
@@ -120,6 +126,6 @@ pub(crate) fn passes(t: &Table) -> Result<(), Refusal>
 pub fn full_check(s: &[u8]) -> Result<(), Refusal>
     ensures { result ≡ checked_slice s.now }
 {
-    let t = trailer::table_in(s).ok_or(Refusal::Trailer)?;
-    passes(&t)
+    passing(s)?;
+    Ok(())
 }

@@ -47,7 +47,5 @@ fn copy_passing(t: &Table, out: &mut [u8]) -> Result<(), Refusal>
 pub fn copy_outward(s: &[u8], out: &mut [u8]) -> Result<(), Refusal>
     ensures { outcome result out.new ≡ copied_slice s.now out.old }
 {
-    let t = trailer::table_in(s).ok_or(Refusal::Trailer)?;
-    crate::checking::passes(&t)?;
-    copy_passing(&t, out)
+    copy_passing(&crate::checking::passing(s)?, out)
 }

@@ -44,7 +44,5 @@ pub fn first_move(t: &Table) -> Result<Move, Refusal>
 pub fn find(s: &[u8]) -> Result<Move, Refusal>
     ensures { result ≡ found_slice s.now }
 {
-    let t = trailer::table_in(s).ok_or(Refusal::Trailer)?;
-    crate::checking::passes(&t)?;
-    first_move(&t)
+    first_move(&crate::checking::passing(s)?)
 }

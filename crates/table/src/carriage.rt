@@ -5,7 +5,7 @@ ghost use Rattle.table.specs.Carriage.{hop, vacated, carried};
 
 use board::Board;
 
-// Adds `more` to the hops of the packet in slot `k`.
+// Adds `more` to the hops of the packet in slot `k`. A slot's number is asked with its table, a slice where it is written, as in `slots::slot` and `hand_out`.
 fn add_hops(t: &mut [u8], k: usize, more: u8)
     requires k_in_bounds { 16 * k + 16 ≤ length t.old }
     requires more_bound { get_or (slot_at t.old k) 3 0 + more < 256 }

@@ -27,7 +27,7 @@ fn search(t: &[u8], from: usize, count: usize) -> QueueRoom
     }
 }
 
-// Room in a node's queue, before any of it is used.
+// Room in a node's queue, before any of it is used. That the node is on the board is asked here and in `way`: a type of a board's nodes would be no plainer.
 #[tactic(auto, using(board::proofs::BoardLaws::queue_within, board::proofs::BoardLaws::slots_most), unfolding(crate::specs::Queues::room_at, crate::specs::Queues::empties_at))]
 pub fn room_at(t: &Table, p: Place) -> QueueRoom
     requires { (net_of t.now.head.board).valid p.node ≡ true }

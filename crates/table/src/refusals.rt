@@ -20,6 +20,7 @@ pub enum Refusal {
 }
 
 impl Refusal {
+    // No `From`: beside the number stands the place, and a caller asks for each by its name.
     #[tactic(auto, unfolding(crate::specs::Refusals::number_of))]
     pub fn number(self) -> u32
         ensures { result ≡ number_of self }

@@ -6,6 +6,7 @@ ghost use Rattle.text.specs.Dec.{dec};
 ghost use Rattle.text.specs.Put.{Takes, added, begun};
 
 // A lent buffer, of which the bytes below `at` are written.
+// No fmt::Write: what write! puts is promised only where it answers Ok, and the listing's clauses speak of every call.
 pub struct Text<'a> {
     pub buf: &'a mut [u8],
     pub at: usize,

@@ -28,8 +28,7 @@ pub enum Count {
     Delivered,
 }
 
-fn board_of(z: &[u8]) -> Board
-    requires { length z.now ≡ 16 }
+fn board_of(z: &[u8; 16]) -> Board
     ensures { result ≡ board_of z.now }
 {
     Board {
@@ -40,8 +39,7 @@ fn board_of(z: &[u8]) -> Board
     }
 }
 
-fn head_of(z: &[u8]) -> Head
-    requires { length z.now ≡ 16 }
+fn head_of(z: &[u8; 16]) -> Head
     ensures { result ≡ head_of z.now }
 {
     Head {
@@ -67,9 +65,8 @@ fn head_ok(h: Head, n: usize) -> bool
 pub fn trailer(s: &[u8]) -> Option<Head>
     ensures { result ≡ trailer_of s.now }
 {
-    let at = s.len().checked_sub(16)?;
-    let h = head_of(&s[at..]);
-    if head_ok(h, s.len()) { Some(h) } else { None }
+    let h = head_of(s.last_chunk()?);
+    head_ok(h, s.len()).then_some(h)
 }
 
 // Stores a count in the trailer of the table `t`.
@@ -85,7 +82,7 @@ pub fn put_count(t: &mut [u8], count: Count, n: u32)
     slots::number::put32(t, t.len() - from_end, n);
 }
 
-// The trailer of a table into which no packet has been taken.
+// The trailer of a table into which no packet has been taken. That its board is good is asked here and below, as in the layout: there is no `Table` yet.
 #[tactic(auto, using(board::proofs::BoardLaws::slots_most), unfolding(crate::specs::Trailer::trailer_bytes, slots::specs::Bytes::bytes32))]
 fn fresh_trailer(b: Board) -> [u8; 16]
     requires { GoodBoard b }

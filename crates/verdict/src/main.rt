@@ -3,6 +3,7 @@
 
 use std::io;
 
+// As `list`, but for its call and its room: a function for both would take the call as a closure and the room from it, and be no plainer.
 fn main(rt: HostRuntime) -> io::Result<()> {
     let mut input = listing::input_room();
     let n = reading::read_full(&mut rt.stdin(), &mut input)?;

@@ -5,6 +5,7 @@ use mathlib.Core.Path.{◌≡◌, refl, sym, ◌∙◌}
 use native.Mathlib.Omega.{arith}
 use lib.ListN.{take-append-drop}
 use lib.Seq.{length-take-le}
+use Rattle.network.proofs.Tests.{clash}
 use Rattle.trailer.specs.Trailer.{trailer_of}
 use Rattle.table.specs.declared.refusals.Refusal.TheVariants.{Trailer}
 use Rattle.listing.proofs.OutwardLaws.{sent-long, sent_bad, copy_fits, sent_refused, sent-done, copy_laid}
@@ -34,7 +35,7 @@ returns-in_err-copy_outward-clause-refused c =
     let e : trailer_of c.args.s.now ≡ Some c.in_ok-size.field-0 = sym c.trailer.ensures ∙ c.in_ok-size.ensures.ok_part in
     let size = c.in_ok-size.field-0.size in
     let m = length-take-le size out (omega (arith, copy_fits _ c.if-s-gt-MOST.false _ e, c.requires)) in
-    let d = sent_refused _ c.if-s-gt-MOST.false _ e _ m c.in_err-copy_outward.ensures refl in
+    let d = sent_refused _ c.if-s-gt-MOST.false _ e _ m c.in_err-copy_outward.ensures (λ k. clash cc) in
     let r : c.from_residual-in_err-copy_outward.result ≡ Err c.in_err-copy_outward.field-0.0 = search rules in
     rw r (d.0, rw d.1 (take-append-drop size out))
 
