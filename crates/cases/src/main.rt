@@ -24,7 +24,13 @@ struct Trial<'a, P, const N: usize> {
     bytes: [u8; N],
 }
 
-impl<P: Print, const N: usize> Trial<'_, P, N> {
+impl<'a, P: Print, const N: usize> Trial<'a, P, N> {
+    // Zeros, under a case's title.
+    fn begin(rt: &'a P, title: &str) -> io::Result<Self> {
+        println!(rt; "{title}")?;
+        Ok(Trial { rt, bytes: [0; N] })
+    }
+
     fn clear(&mut self, width: u32, height: u32, depth: u32, profile: u32) -> io::Result<()> {
         match router::clear(&mut self.bytes, width, height, depth, profile) {
             Ok(()) => println!(self.rt; "clear 0"),
@@ -118,8 +124,7 @@ fn show(rt: &impl Print, s: &[u8]) -> io::Result<()> {
 
 // Waiting at (0,0) to (0,0): enter leads to B, then 7; no hops.
 fn at_home(rt: &impl Print) -> io::Result<()> {
-    println!(rt; "at its destination from the start")?;
-    let mut t = Trial { rt, bytes: [0; 64] };
+    let mut t: Trial<_, 64> = Trial::begin(rt, "at its destination from the start")?;
     t.clear(1, 1, 1, 0)?;
     t.take_in(0, 0)?;
     t.make_moves(&[(0, 1), (2, 7)])?;
@@ -128,11 +133,7 @@ fn at_home(rt: &impl Print) -> io::Result<()> {
 
 // Depth 1, A at (0,0) to (1,0), A slot at (1,0) held: code 2 answers 6.
 fn queue_full(rt: &impl Print) -> io::Result<()> {
-    println!(rt; "the target queue is full")?;
-    let mut t = Trial {
-        rt,
-        bytes: [0; 112],
-    };
+    let mut t: Trial<_, 112> = Trial::begin(rt, "the target queue is full")?;
     t.clear(2, 1, 1, 0)?;
     t.take_in(0, 1)?;
     t.make_moves(&[(0, 1), (1, 2)])?;
@@ -142,11 +143,7 @@ fn queue_full(rt: &impl Print) -> io::Result<()> {
 
 // The slot that a packet has just left is taken by the next one.
 fn slot_reused(rt: &impl Print) -> io::Result<()> {
-    println!(rt; "a slot just left")?;
-    let mut t = Trial {
-        rt,
-        bytes: [0; 112],
-    };
+    let mut t: Trial<_, 112> = Trial::begin(rt, "a slot just left")?;
     t.clear(2, 1, 1, 0)?;
     t.take_in(0, 1)?;
     t.make_move(0, 1)?;
@@ -158,11 +155,7 @@ fn slot_reused(rt: &impl Print) -> io::Result<()> {
 
 // Depth 3: the room left in A at (0,0), then in A at (1,0) with a spoiled slot in it, and after a delivery from there.
 fn room_left(rt: &impl Print) -> io::Result<()> {
-    println!(rt; "room left")?;
-    let mut t = Trial {
-        rt,
-        bytes: [0; 240],
-    };
+    let mut t: Trial<_, 240> = Trial::begin(rt, "room left")?;
     t.clear(2, 1, 3, 0)?;
     t.take_in(0, 1)?;
     t.make_move(0, 1)?;
@@ -174,11 +167,7 @@ fn room_left(rt: &impl Print) -> io::Result<()> {
 
 // Profile 1 on a 2 by 2 board: A at (1,0) to (0,1) has code 4 and not 3, A at (0,1) to (1,0) has code 2 and not 5; B has both falls.
 fn no_dynamic_hops(rt: &impl Print) -> io::Result<()> {
-    println!(rt; "profile 1")?;
-    let mut t = Trial {
-        rt,
-        bytes: [0; 208],
-    };
+    let mut t: Trial<_, 208> = Trial::begin(rt, "profile 1")?;
     t.clear(2, 2, 1, 1)?;
     show(rt, &t.bytes[192..])?;
     t.take_in(1, 16)?;
@@ -189,11 +178,7 @@ fn no_dynamic_hops(rt: &impl Print) -> io::Result<()> {
 
 // Profile 2 on a 2 by 2 board: A at (0,0) to (1,1) has code 2 and not 4, and there code 7 and not 6; B at (1,1) to (0,0) has code 3 and not 5.
 fn one_hop(rt: &impl Print) -> io::Result<()> {
-    println!(rt; "profile 2")?;
-    let mut t = Trial {
-        rt,
-        bytes: [0; 208],
-    };
+    let mut t: Trial<_, 208> = Trial::begin(rt, "profile 2")?;
     t.clear(2, 2, 1, 2)?;
     show(rt, &t.bytes[192..])?;
     t.take_in(0, 17)?;
@@ -208,11 +193,7 @@ fn one_hop(rt: &impl Print) -> io::Result<()> {
 // A 2 by 2 board: A at (1,0) to (0,1) and B at (1,0) to (0,0) both have code 3. The one in A gives way, and find names its code 4; once the one in B
 // has gone, it may go.
 fn right_of_way(rt: &impl Print) -> io::Result<()> {
-    println!(rt; "right of way")?;
-    let mut t = Trial {
-        rt,
-        bytes: [0; 208],
-    };
+    let mut t: Trial<_, 208> = Trial::begin(rt, "right of way")?;
     t.clear(2, 2, 1, 0)?;
     t.take_in(1, 16)?;
     t.make_move(3, 1)?;
@@ -226,11 +207,7 @@ fn right_of_way(rt: &impl Print) -> io::Result<()> {
 // The same two with B at (0,0) held, so that the one in B has no room, then A at (0,0) too: 12 comes before 6. With the one in B spoiled the answer
 // is 6, and 0 once A at (0,0) is empty.
 fn way_without_room(rt: &impl Print) -> io::Result<()> {
-    println!(rt; "right of way without room")?;
-    let mut t = Trial {
-        rt,
-        bytes: [0; 208],
-    };
+    let mut t: Trial<_, 208> = Trial::begin(rt, "right of way without room")?;
     t.clear(2, 2, 1, 0)?;
     t.take_in(1, 16)?;
     t.make_move(3, 1)?;
@@ -247,11 +224,7 @@ fn way_without_room(rt: &impl Print) -> io::Result<()> {
 // A 3 by 3 board: B at (1,1) to (1,0) has code 5 alone. A at (1,1) to (0,2) has code 3 and doesn't give way; A at (1,1) to (2,0) has code 5 and does,
 // but in profile 1 it has no code 5.
 fn way_of_one_code(rt: &impl Print) -> io::Result<()> {
-    println!(rt; "right of way by the same code")?;
-    let mut t = Trial {
-        rt,
-        bytes: [0; 448],
-    };
+    let mut t: Trial<_, 448> = Trial::begin(rt, "right of way by the same code")?;
     t.clear(3, 3, 1, 0)?;
     t.take_in(17, 1)?;
     t.make_move(12, 1)?;
@@ -267,8 +240,7 @@ fn way_of_one_code(rt: &impl Print) -> io::Result<()> {
 
 // A slice too short for a trailer, and a trailer whose profile is 3.
 fn bad_trailer(rt: &impl Print) -> io::Result<()> {
-    println!(rt; "refusal 1")?;
-    let mut short = Trial { rt, bytes: [0; 15] };
+    let mut short: Trial<_, 15> = Trial::begin(rt, "refusal 1")?;
     short.take_in(0, 0)?;
     short.make_move(0, 1)?;
     short.read_payload(0)?;
@@ -315,11 +287,7 @@ fn every_field(rt: &impl Print) -> io::Result<()> {
 }
 
 fn out_of_range(rt: &impl Print) -> io::Result<()> {
-    println!(rt; "refusal 2")?;
-    let mut t = Trial {
-        rt,
-        bytes: [0; 112],
-    };
+    let mut t: Trial<_, 112> = Trial::begin(rt, "refusal 2")?;
     t.clear(2, 1, 1, 0)?;
     t.take_in(2, 0)?;
     t.take_in(0, 16)?;
@@ -329,11 +297,7 @@ fn out_of_range(rt: &impl Print) -> io::Result<()> {
 }
 
 fn empty_or_spoiled(rt: &impl Print) -> io::Result<()> {
-    println!(rt; "refusals 3 and 4")?;
-    let mut t = Trial {
-        rt,
-        bytes: [0; 112],
-    };
+    let mut t: Trial<_, 112> = Trial::begin(rt, "refusals 3 and 4")?;
     t.clear(2, 1, 1, 0)?;
     t.make_move(0, 1)?;
     t.read_payload(0)?;
@@ -346,11 +310,7 @@ fn empty_or_spoiled(rt: &impl Print) -> io::Result<()> {
 
 // A spoiled slot in the target queue is not empty.
 fn not_offered_or_no_room(rt: &impl Print) -> io::Result<()> {
-    println!(rt; "refusals 5 and 6")?;
-    let mut t = Trial {
-        rt,
-        bytes: [0; 112],
-    };
+    let mut t: Trial<_, 112> = Trial::begin(rt, "refusals 5 and 6")?;
     t.clear(2, 1, 1, 0)?;
     t.take_in(0, 1)?;
     t.take_in(0, 1)?;
@@ -362,11 +322,7 @@ fn not_offered_or_no_room(rt: &impl Print) -> io::Result<()> {
 }
 
 fn all_taken(rt: &impl Print) -> io::Result<()> {
-    println!(rt; "refusal 7")?;
-    let mut t = Trial {
-        rt,
-        bytes: [0; 112],
-    };
+    let mut t: Trial<_, 112> = Trial::begin(rt, "refusal 7")?;
     t.clear(2, 1, 1, 0)?;
     t.bytes[100..104].fill(255);
     t.take_in(0, 1)?;
@@ -400,8 +356,7 @@ fn boards_refused(rt: &impl Print) -> io::Result<()> {
 
 // An empty table; a lone waiting packet; the copy of it, and buffers one byte short and long.
 fn judged(rt: &impl Print) -> io::Result<()> {
-    println!(rt; "a table that passes")?;
-    let mut t = Trial { rt, bytes: [0; 64] };
+    let mut t: Trial<_, 64> = Trial::begin(rt, "a table that passes")?;
     t.clear(1, 1, 1, 0)?;
     t.judge()?;
     t.take_in(0, 0)?;
@@ -412,8 +367,7 @@ fn judged(rt: &impl Print) -> io::Result<()> {
 
 // A trailer that is not good; an empty slot with one payload byte 1; a wrong count; two slots with one serial.
 fn faulty(rt: &impl Print) -> io::Result<()> {
-    println!(rt; "tables that do not pass")?;
-    let mut t = Trial { rt, bytes: [0; 64] };
+    let mut t: Trial<_, 64> = Trial::begin(rt, "tables that do not pass")?;
     t.judge()?;
     t.clear(1, 1, 1, 0)?;
     t.bytes[15] = 1;
