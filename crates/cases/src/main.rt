@@ -2,19 +2,73 @@
 // order 2's profiles, and order 3's right of way.
 #![tactic(auto)]
 
-use std::{fmt, io};
+use std::io;
 
-// Each byte as a blank and its decimal number.
+// What a line is made of.
 #[derive(Clone, Copy)]
-struct Decimals<'a>(&'a [u8]);
+enum Piece<'a> {
+    Word(&'a str),
+    Number(u32),
+    // each byte as a blank and its decimal number
+    Bytes(&'a [u8]),
+}
 
-impl fmt::Display for Decimals<'_> {
-    fn fmt<W: fmt::Write>(&self, f: &mut fmt::Formatter<W>) -> fmt::Result {
-        for byte in self.0 {
-            write!(f, " {byte}")?;
-        }
-        Ok(())
+use Piece::{Bytes, Number, Word};
+
+fn say_bytes(rt: &impl Print, bytes: &[u8]) -> io::Result<()> {
+    for byte in bytes {
+        rt.write_all(b" ")?;
+        rt.print(*byte)?;
     }
+    Ok(())
+}
+
+// Each piece is written by itself, and no line by `println!`: of a line that no longer fits where it is written, as much is there as fits.
+fn say(rt: &impl Print, pieces: &[Piece]) -> io::Result<()> {
+    for piece in pieces {
+        match *piece {
+            Word(text) => rt.write_all(text.as_bytes())?,
+            Number(n) => rt.print(n)?,
+            Bytes(bytes) => say_bytes(rt, bytes)?,
+        }
+    }
+    Ok(())
+}
+
+fn say_refused(rt: &impl Print, label: &str, number: u32, place: u32) -> io::Result<()> {
+    say(
+        rt,
+        &[
+            Word(label),
+            Number(number),
+            Word(" at "),
+            Number(place),
+            Word("\n"),
+        ],
+    )
+}
+
+fn say_moved(
+    rt: &impl Print,
+    number: u32,
+    slot: u32,
+    packet: &[u8; 16],
+    left: u32,
+) -> io::Result<()> {
+    say(
+        rt,
+        &[
+            Word("move "),
+            Number(number),
+            Word(" slot "),
+            Number(slot),
+            Word(" record"),
+            Bytes(packet),
+            Word(" left "),
+            Number(left),
+            Word("\n"),
+        ],
+    )
 }
 
 // N bytes that a case lends, and where each answer is written.
@@ -32,41 +86,44 @@ impl<'a, P: Print, const N: usize> Trial<'a, P, N> {
     }
 
     fn clear(&mut self, width: u32, height: u32, depth: u32, profile: u32) -> io::Result<()> {
-        match router::clear(&mut self.bytes, width, height, depth, profile) {
-            Ok(()) => println!(self.rt; "clear 0"),
-            Err(refusal) => println!(self.rt; "clear {}", refusal.number()),
-        }
+        let number = match router::clear(&mut self.bytes, width, height, depth, profile) {
+            Ok(()) => 0,
+            Err(refusal) => refusal.number(),
+        };
+        say(self.rt, &[Word("clear "), Number(number), Word("\n")])
     }
 
     fn take_in(&mut self, source: u8, destination: u8) -> io::Result<()> {
         let payload = [1, 2, 3, 4, 5, 6, 7, 8];
-        match router::take_in(&mut self.bytes, source, destination, payload) {
-            Ok(t) => println!(self.rt;
-                "take in 0 slot {} serial {} left {}",
-                t.slot, t.serial, t.left
-            ),
-            Err(refusal) => println!(self.rt;
-                "take in {} slot 0 serial 0 left 0",
-                refusal.number()
-            ),
-        }
+        let (number, slot, serial, left) = match router::take_in(
+            &mut self.bytes,
+            source,
+            destination,
+            payload,
+        ) {
+            Ok(t) => (0, t.slot, t.serial, t.left),
+            Err(refusal) => (refusal.number(), 0, 0, 0),
+        };
+        say(
+            self.rt,
+            &[
+                Word("take in "),
+                Number(number),
+                Word(" slot "),
+                Number(slot),
+                Word(" serial "),
+                Number(serial),
+                Word(" left "),
+                Number(left),
+                Word("\n"),
+            ],
+        )
     }
 
     fn make_move(&mut self, slot: u32, code: u32) -> io::Result<()> {
         match router::make_move(&mut self.bytes, slot, code) {
-            Ok(m) => println!(self.rt;
-                "move 0 slot {} record{} left {}",
-                m.slot,
-                Decimals(&m.packet),
-                m.left
-            ),
-            Err(refusal) => {
-                println!(self.rt;
-                    "move {} slot 0 record{} left 0",
-                    refusal.number(),
-                    Decimals(&[0; 16])
-                )
-            }
+            Ok(m) => say_moved(self.rt, 0, m.slot, &m.packet, m.left),
+            Err(refusal) => say_moved(self.rt, refusal.number(), 0, &[0; 16], 0),
         }
     }
 
@@ -79,30 +136,43 @@ impl<'a, P: Print, const N: usize> Trial<'a, P, N> {
     }
 
     fn read_payload(&self, slot: u32) -> io::Result<()> {
-        match router::read_payload(&self.bytes, slot) {
-            Ok(payload) => println!(self.rt; "payload 0{}", Decimals(payload)),
-            Err(refusal) => println!(self.rt; "payload {}", refusal.number()),
-        }
+        let (number, payload) = match router::read_payload(&self.bytes, slot) {
+            Ok(payload) => (0, payload),
+            Err(refusal) => (refusal.number(), &[][..]),
+        };
+        say(
+            self.rt,
+            &[Word("payload "), Number(number), Bytes(payload), Word("\n")],
+        )
     }
 
     fn full_check(&self) -> io::Result<()> {
         match survey::full_check(&self.bytes) {
-            Ok(()) => println!(self.rt; "check passes"),
-            Err(refusal) => println!(self.rt; "check {} at {}", refusal.number(), refusal.place()),
+            Ok(()) => say(self.rt, &[Word("check passes\n")]),
+            Err(refusal) => say_refused(self.rt, "check ", refusal.number(), refusal.place()),
         }
     }
 
     fn find(&self) -> io::Result<()> {
         match survey::find(&self.bytes) {
-            Ok(m) => println!(self.rt; "find 0 slot {} code {}", m.slot, m.code),
-            Err(refusal) => println!(self.rt; "find {} at {}", refusal.number(), refusal.place()),
+            Ok(m) => say(
+                self.rt,
+                &[
+                    Word("find 0 slot "),
+                    Number(m.slot),
+                    Word(" code "),
+                    Number(m.code),
+                    Word("\n"),
+                ],
+            ),
+            Err(refusal) => say_refused(self.rt, "find ", refusal.number(), refusal.place()),
         }
     }
 
     fn copy_outward(&self, out: &mut [u8]) -> io::Result<()> {
         match survey::copy_outward(&self.bytes, out) {
-            Ok(()) => println!(self.rt; "copy done")?,
-            Err(refusal) => println!(self.rt; "copy {} at {}", refusal.number(), refusal.place())?,
+            Ok(()) => say(self.rt, &[Word("copy done\n")])?,
+            Err(refusal) => say_refused(self.rt, "copy ", refusal.number(), refusal.place())?,
         }
         show(self.rt, out)
     }
@@ -119,7 +189,7 @@ impl<'a, P: Print, const N: usize> Trial<'a, P, N> {
 }
 
 fn show(rt: &impl Print, s: &[u8]) -> io::Result<()> {
-    println!(rt; "bytes{}", Decimals(s))
+    say(rt, &[Word("bytes"), Bytes(s), Word("\n")])
 }
 
 // Waiting at (0,0) to (0,0): enter leads to B, then 7; no hops.

@@ -3,17 +3,14 @@
 use Prim.Native.Nat.{ℕ, zero, suc, ◌+◌, ◌/◌, ◌%◌, ◌<◌}
 use mathlib.Core.Path.{◌≡◌, refl, sym, ap, ◌∙◌}
 use mathlib.Core.List.{List}
-use mathlib.Core.Bool.{Bool, true, false, not, cond, ◌&&◌, ◌||◌, or-true}
+use mathlib.Core.Bool.{Bool, true, false, cond, ◌&&◌, ◌||◌, or-true}
 use native.Mathlib.Omega.{arith}
 use native.Mathlib.Decide.{ℕ_discrete}
 use native.Mathlib.Nat.{not-suc-le-zero}
-use lib.Bits.{bit_and, bit_or}
 use lib.Dec.{ltb, eqb}
 use lib.ListN.{length, get_or, length-set}
 use lib.Seq.{get_or-set_same, get_or-set_other}
-use borrow.Author.Tests.{eqb-true, ltb-true, eq-eqb}
-use Rattle.std.proofs.lemmas.Bool.{not-false}
-use Rattle.std.proofs.lemmas.Nat.{or_disjoint}
+use borrow.Author.Tests.{ltb-true, eq-eqb}
 use Rattle.network.proofs.Tests.{and_l, and_r, cond_true}
 use Rattle.filter.specs.Flags.{weight_of, bit_of, flag_at, raised}
 
@@ -33,26 +30,6 @@ each (suc n) p e k h = elim (ℕ_discrete k n) [
 pub weight_pos : (i : ℕ) → i < 8 → 0 < weight_of i
 unfolding below
 weight_pos i l = ltb-true _ _ (each 8 (λ j. ltb 0 (weight_of j)) refl i l)
-
--- bit i of a byte, by its mask
-masked : ℕ → ℕ → Bool
-masked x i = let z = eqb (bit_and x (weight_of i)) 0 in cond (bit_of x i) (not z) z
-
-all_masked : below 256 (λ x. below 8 (masked x)) ≡ true
-unfolding below masked
-all_masked = refl
-
-module _ (x i : ℕ) (h : x < 256) (l : i < 8) where
-  pub mask_is : not (eqb (bit_and x (weight_of i)) 0) ≡ bit_of x i
-  unfolding masked
-  mask_is = go (bit_of x i) (eqb (bit_and x (weight_of i)) 0) (each 8 (masked x) (each 256 (λ x. below 8 (masked x)) all_masked x h) i l)
-    where
-      go : (t z : Bool) → cond t (not z) z ≡ true → not z ≡ t
-      go true z e = e
-      go false z e = ap not e
-
-  pub mask_adds : bit_of x i ≡ false → bit_or x (weight_of i) ≡ x + weight_of i
-  mask_adds down = or_disjoint x (weight_of i) (eqb-true _ 0 (not-false _ (mask_is ∙ down)))
 
 -- bit i raised in the byte x, where it is down: x is a byte still, and bit j is up where it was up, or is the one raised
 kept : ℕ → ℕ → ℕ → Bool

@@ -1,4 +1,5 @@
-// 4,096 flags as bits in 512 bytes: which serials, modulo 4,096, have been met.
+// 4,096 flags as bits in 512 bytes: which serials, modulo 4,096, have been met. A bit is read by division and raised by a sum, as its definition has it, and no
+// mask: one computed fact is behind both.
 #![tactic(auto)]
 
 ghost use Rattle.std.specs.Prelude.{◌≡◌, false, ◌+◌, ◌<◌};
@@ -17,7 +18,7 @@ pub fn flag(flags: &[u8; 512], b: usize) -> bool
     requires { b < 4096 }
     ensures { result ≡ flag_at flags.now b }
 {
-    flags[b / 8] & weight_of(b % 8) != 0
+    flags[b / 8] / weight_of(b % 8) % 2 == 1
 }
 
 // Raises a flag that is not up.
@@ -27,5 +28,5 @@ pub fn raise(flags: &mut [u8; 512], b: usize)
     requires b_value { flag_at flags.old b ≡ false }
     ensures { flags.new ≡ raised flags.old b }
 {
-    flags[b / 8] |= weight_of(b % 8);
+    flags[b / 8] += weight_of(b % 8);
 }

@@ -30,24 +30,28 @@ fn fail<R: Alloc>(rt: &R, errors: &impl Print, path: &[u8], why: io::Error) -> i
     errors.println(words(text.as_str()))
 }
 
-fn list_file<R: Files + Print + Alloc>(rt: &R, errors: &impl Print, path: &[u8]) -> io::Result<()> {
+// One room of each kind serves for all files: of what is put there, only that is read. Made here, each file would pay for their zeros.
+fn list_file<R: Files + Print + Alloc>(
+    rt: &R,
+    errors: &impl Print,
+    path: &[u8],
+    input: &mut [u8],
+    out: &mut [u8],
+) -> io::Result<()> {
     let mut file = match open(rt, path) {
         Ok(file) => file,
         Err(why) => return fail(rt, errors, path, why),
     };
-    let mut input = listing::input_room();
-    let n = match reading::read_full(&mut file, &mut input) {
+    let n = match reading::read_full(&mut file, input) {
         Ok(n) => n,
         Err(why) => return fail(rt, errors, path, why),
     };
     rt.write_all(path)?;
     rt.write_all(b": ")?;
-    let mut line = [0; listing::answering::LINE_ROOM];
-    if let Ok(length) = listing::check_line(&input[..n], &mut line) {
-        rt.write_all(&line[..length])?;
+    if let Ok(length) = listing::check_line(&input[..n], out) {
+        rt.write_all(&out[..length])?;
     }
-    let mut out = listing::output_room();
-    match listing::list_table(&input[..n], &mut out) {
+    match listing::list_table(&input[..n], out) {
         Ok(length) => rt.write_all(&out[..length]),
         // the room is long enough
         Err(_) => Ok(()),
@@ -65,11 +69,13 @@ fn path_of<'a>(rt: &impl Env, i: usize, room: &'a mut [u8]) -> Option<&'a [u8]> 
 
 fn main(rt: HostRuntime) -> io::Result<()> {
     let mut room = [0; 4096];
+    let mut input = listing::input_room();
+    let mut out = listing::output_room();
     for i in 1..usize::MAX {
         let Some(path) = path_of(&rt, i, &mut room) else {
             break;
         };
-        list_file(&rt, &rt.stderr(), path)?;
+        list_file(&rt, &rt.stderr(), path, &mut input, &mut out)?;
     }
     Ok(())
 }

@@ -1,17 +1,24 @@
--- How many numbers have a property: the search for the lowest, the parts of a range, and one number more.
+-- How many numbers have a property: a turn of a loop, the search for the lowest, the parts of a range, and one number more.
 -- Assumes nothing.
 use Rattle.std.specs.Prelude.{Some}
-use Prim.Native.Nat.{ℕ, zero, suc, ◌+◌, ◌≤◌, ◌<◌}
+use Prim.Native.Nat.{ℕ, zero, suc, ◌+◌, ◌-◌, ◌≤◌, ◌<◌}
 use mathlib.Core.Path.{◌≡◌, refl, sym, ap, ◌∙◌}
 use mathlib.Core.Logic.{◌≢◌, ⊎_elim}
 use mathlib.Core.Bool.{Bool, true, false, cond}
 use native.Mathlib.Omega.{arith}
 use native.Mathlib.Nat.{eq-or-lt_of_le}
+use native.Mathlib.Numerals.{add-one}
 use lib.Dec.{ltb}
 use borrow.Author.Tests.{lt-ltb}
 use Rattle.network.specs.Search.{lowest_with, count_with, is_at}
 
 module _ (p : ℕ → Bool) where
+  -- a turn of a loop that ends at e
+  pub count_step : (k e : ℕ) → k < e → count_with p k (e - k) ≡ cond (p k) (suc (count_with p (k + 1) (e - (k + 1)))) (count_with p (k + 1) (e - (k + 1)))
+  count_step k e h =
+      let q : e - k ≡ suc (e - (k + 1)) = omega arith in
+      ap (count_with p k) q ∙ rw add-one refl
+
   pub count_most : (k n : ℕ) → count_with p k n ≤ n
   count_most k zero = omega arith
   count_most k (suc n) = by (p k) (count_most (suc k) n)

@@ -1,5 +1,5 @@
 // The commands of a script, read from its bytes.
-ghost use Rattle.std.specs.Prelude.{◌≡◌, ◌+◌, ◌-◌, ◌∷◌, ◌++◌, ◌<◌, ◌≤◌, length, slice_index, IfOk, OnOk};
+ghost use Rattle.std.specs.Prelude.{ℕ, ◌≡◌, ◌+◌, ◌-◌, ◌∷◌, ◌++◌, ◌<◌, ◌≤◌, Some, length, slice_index, IfOk, OnOk, OnErr};
 ghost use Rattle.replay.specs.Sizes.{size_of};
 
 // A letter that is none, a command that the script's end cuts off, or one that names what its buffer does not hold.
@@ -44,7 +44,8 @@ pub enum Command {
 }
 
 fn next_bytes<const N: usize>(rest: &mut &[u8]) -> Result<[u8; N], Malformed>
-    ensures { IfOk result (λ xs. rest.old.now ≡ xs ++ rest.new.now) }
+    ensures taken { IfOk result (λ xs. rest.old.now ≡ xs ++ rest.new.now) }
+    ensures refused { OnErr result (length rest.old.now < N) }
 {
     let (first, after) = rest.split_first_chunk::<N>().ok_or(Malformed)?;
     *rest = after;
@@ -52,13 +53,15 @@ fn next_bytes<const N: usize>(rest: &mut &[u8]) -> Result<[u8; N], Malformed>
 }
 
 fn next_byte(rest: &mut &[u8]) -> Result<u8, Malformed>
-    ensures { IfOk result (λ b. rest.old.now ≡ b ∷ rest.new.now) }
+    ensures taken { IfOk result (λ b. rest.old.now ≡ b ∷ rest.new.now) }
+    ensures refused { OnErr result (length rest.old.now < 1) }
 {
     rest.split_off_first().copied().ok_or(Malformed)
 }
 
 fn next_number(rest: &mut &[u8]) -> Result<u32, Malformed>
-    ensures { OnOk result (length rest.old.now ≡ 4 + length rest.new.now) }
+    ensures taken { OnOk result (length rest.old.now ≡ 4 + length rest.new.now) }
+    ensures refused { OnErr result (length rest.old.now < 4) }
 {
     Ok(u32::from_le_bytes(next_bytes(rest)?))
 }
@@ -67,6 +70,7 @@ fn next_number(rest: &mut &[u8]) -> Result<u32, Malformed>
 pub fn next_command(rest: &mut &[u8]) -> Result<Command, Malformed>
     ensures size { OnOk result (size_of (slice_index rest.old.now 0) ≡ Some (length rest.old.now - length rest.new.now)) }
     ensures shorter { OnOk result (length rest.new.now < length rest.old.now) }
+    ensures refused { OnErr result ((n : ℕ) → size_of (slice_index rest.old.now 0) ≡ Some n → length rest.old.now < n) }
 {
     let command = match next_byte(rest)? {
         b'L' => Command::Lend {

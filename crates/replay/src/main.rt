@@ -4,7 +4,7 @@
 mod answers;
 mod buffer;
 mod commands;
-mod hexadecimal;
+mod saying;
 mod script;
 
 use std::io;

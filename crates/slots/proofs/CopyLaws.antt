@@ -1,4 +1,4 @@
--- The first i bytes of slot a copied over slot c: slot c has those i bytes, and then its own.
+-- Slot a copied over slot c, one byte a turn: after i turns slot c has the first i bytes of slot a, and then its own.
 -- Assumes nothing.
 use Prim.Native.Nat.{ℕ, ◌+◌, ◌*◌, ◌≤◌, ◌<◌}
 use mathlib.Core.Path.{◌≡◌, sym, ap, ◌∙◌}

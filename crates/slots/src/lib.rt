@@ -65,8 +65,7 @@ pub fn write_slot(t: &mut [u8], k: usize, v: [u8; 16])
     t[a..a + 16].copy_from_slice(&v);
 }
 
-// Makes slot `to` the bytes of another slot, `from`.
-#[tactic(auto, unfolding(crate::specs::Slots::slot_at, crate::specs::Slots::with_slot))]
+// Makes slot `to` the bytes of another slot, `from`, byte by byte: `copy_within` doesn't say which byte is copied when, of which `one_copied` speaks.
 pub fn copy_slot(t: &mut [u8], from: usize, to: usize)
     requires from_in_bounds { 16 * from + 16 ≤ length t.old }
     requires to_in_bounds { 16 * to + 16 ≤ length t.old }
@@ -75,7 +74,9 @@ pub fn copy_slot(t: &mut [u8], from: usize, to: usize)
 {
     let a = 16 * from;
     let b = 16 * to;
-    t.copy_within(a..a + 16, b);
+    for i in 0..16 {
+        t[b + i] = t[a + i];
+    }
 }
 
 // Makes slot `k` 16 zeros.

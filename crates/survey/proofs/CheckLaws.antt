@@ -7,15 +7,13 @@ use mathlib.Core.List.{List}
 use mathlib.Core.Bool.{Bool, true, false, cond, ◌&&◌, ◌||◌}
 use native.Mathlib.Omega.{arith}
 use native.Mathlib.Decide.{ℕ_discrete}
-use native.Mathlib.Nat.{not-suc-le-zero, add-zero, zero-add}
+use native.Mathlib.Nat.{not-suc-le-zero}
 use native.Mathlib.Numerals.{add-one}
 use lib.Dec.{eqb}
 use lib.ListN.{length, drop}
 use mir.Syntax.{w32}
 use mir.Val.{Fits}
 use borrow.Author.Tests.{eqb-true, eq-eqb, not-false}
-use Rattle.std.specs.List.{range_with_len, count_by, filter}
-use Rattle.std.proofs.lemmas.List.Sums.{length-filter, sum_by-cons}
 use Rattle.network.specs.Search.{lowest_with, is_at, NoneWith}
 use Rattle.network.proofs.Tests.{and_both, and_yes, both_true, clash, neither}
 use Rattle.network.proofs.SearchLaws.{at_lowest, nowhere_none, none_nowhere}
@@ -176,16 +174,12 @@ module _ {A : Type 0} (refused : Refusal → A) (passed : Head → List ℕ → 
 
 -- ---- held slots counted, and their serials looked for
 
--- the held slots among the n from a on, as `filter` and `count` find them
-module _ (t : List ℕ) where
-  held_from : (a n : ℕ) → held_below t (a + n) ≡ held_below t a + count_by (held_at t) (range_with_len a n)
-  held_from a zero = rw add-zero (omega arith)
-  held_from a (suc n) =
-      let next : a + suc n ≡ suc a + n = omega arith in
-      rw (next, add-one a) (omega (arith, held_from (suc a) n, sum_by-cons (λ x. cond (held_at t x) 1 0) a (range_with_len (suc a) n)))
+module _ (t : List ℕ) (k : ℕ) where
+  pub held_more : held_at t k ≡ true → held_below t (k + 1) ≡ held_below t k + 1
+  held_more e = rw (add-one k, e) (omega arith)
 
-  pub held_counted : (n : ℕ) → length (filter (held_at t) (range_with_len 0 n)) ≡ held_below t n
-  held_counted n = length-filter (held_at t) (range_with_len 0 n) ∙ sym (ap (held_below t) (sym (zero-add n)) ∙ held_from 0 n ∙ zero-add _)
+  pub held_same : held_at t k ≡ false → held_below t (k + 1) ≡ held_below t k
+  held_same e = rw (add-one k, e) (omega arith)
 
 module _ (t : List ℕ) (s : ℕ) where
   -- no held slot below n has the serial

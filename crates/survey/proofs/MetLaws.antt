@@ -25,7 +25,7 @@ module _ {t flags : List ℕ} {k : ℕ} (m : Met t flags k) where
   met_more f = record { full = m.full; bytes = m.bytes; up = below_more _ k m.up f }
 
   -- a turn of the loop, where the flag of slot k's serial is up
-  met_up : {s : ℕ} → s ≡ serial_at t k → flag_at flags (s % 4096) ≡ true → Met t flags (k + 1)
+  pub met_up : {s : ℕ} → s ≡ serial_at t k → flag_at flags (s % 4096) ≡ true → Met t flags (k + 1)
   met_up e f = met_more (λ p. rw (← e) f)
 
   met_raised : (b : ℕ) → b < 4096 → flag_at flags b ≡ false → Met t (raised flags b) k

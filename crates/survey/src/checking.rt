@@ -73,12 +73,16 @@ fn first_repeat(t: &Table) -> Option<usize>
     None
 }
 
-// How many of the slots below `n` are held.
+// How many of the slots below `n` are held. Each counts as 1 or 0, since `filter` would branch at each, and of slots held at random no branch is foreseen.
 fn held_below(t: &[u8], n: usize) -> usize
     requires { 16 * n ≤ length t.now }
     ensures { result ≡ held_below t.now n }
 {
-    (0..n).filter(|&k| held(t, k)).count()
+    let mut count = 0;
+    for k in 0..n {
+        count += usize::from(held(t, k));
+    }
+    count
 }
 
 // S, where taken less delivered isn't the number of held slots.

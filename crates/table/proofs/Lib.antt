@@ -4,3 +4,4 @@ pub mod PacketLaws
 pub mod QueueLaws
 pub mod CarriageLaws
 pub mod RoomLaws
+pub mod Searched

@@ -13,18 +13,27 @@ pub struct QueueRoom {
     pub empty: u32,
 }
 
-// Of the `count` slots from slot `from`, the lowest empty one, and how many are empty.
+// Of the `count` slots from slot `from`, the lowest empty one, and how many are empty: each is looked at once, from the last down. `find` and `count` would
+// look at a full queue twice.
 fn search(t: &[u8], from: usize, count: usize) -> QueueRoom
     requires count_in_bounds { 16 * (from + count) ≤ length t.now }
     requires count_bound { count < 4294967296 }
     ensures lowest_value { result.lowest ≡ lowest_with (empty_at t.now) from count }
     ensures empty_value { result.empty ≡ count_with (empty_at t.now) from count }
 {
-    let end = from + count;
-    QueueRoom {
-        lowest: (from..end).find(|&k| slots::slot_empty(t, k)),
-        empty: (from..end).filter(|&k| slots::slot_empty(t, k)).count() as u32,
+    let mut found = QueueRoom {
+        lowest: None,
+        empty: 0,
+    };
+    for k in (from..from + count).rev() {
+        if slots::slot_empty(t, k) {
+            found = QueueRoom {
+                lowest: Some(k),
+                empty: found.empty + 1,
+            };
+        }
     }
+    found
 }
 
 // Room in a node's queue, before any of it is used. That the node is on the board is asked here and in `way`: a type of a board's nodes would be no plainer.

@@ -32,9 +32,16 @@ put-put d at s t h =
       ← drop-drop (length t) (length s) x,
     )
 
+pub first_fits : {d : List ℕ} {at : ℕ} (s t : List ℕ) → Fits d at (s ++ t) → Fits d at s
+first_fits s t f = record { room = omega (arith, f.room, length-append s t) }
+
 module _ {d e : List ℕ} {at r : ℕ} {s : List ℕ} (w : Wrote d at s e r) where
-  wrote_long : length e ≡ length d
+  pub wrote_long : length e ≡ length d
   wrote_long = ap length w.bytes ∙ length-put d at s w.fits.room
+
+  -- where both have room from the start, the second has it past the first
+  pub next_fits : {t : List ℕ} → Fits d at (s ++ t) → Fits e r t
+  next_fits {t} f = record { room = omega (arith, f.room, length-append s t, w.next, wrote_long) }
 
   pub then : {t f : List ℕ} {q : ℕ} → Wrote e r t f q → Wrote d at (s ++ t) f q
   then {t} v = record {

@@ -3,7 +3,7 @@
 
 ghost use Rattle.std.specs.Prelude.{◌≡◌, ◌∷◌, [], ◌++◌};
 ghost use Rattle.text.specs.Dec.{dec};
-ghost use Rattle.text.specs.Put.{Takes, added, begun};
+ghost use Rattle.text.specs.Put.{Takes, Wrote, added, begun};
 
 // A lent buffer, of which the bytes below `at` are written.
 // No fmt::Write: what write! puts is promised only where it answers Ok, and the listing's clauses speak of every call.
@@ -55,7 +55,8 @@ impl<'a> Text<'a> {
     // A word, and a number after it.
     pub fn word_decimal(&mut self, word: &[u8], n: u32)
         requires { Takes self.old (word.now ++ dec n) }
-        ensures { self.new ≡ added self.old (word.now ++ dec n) }
+        ensures text { self.new ≡ added self.old (word.now ++ dec n) }
+        ensures wrote { Wrote self.old.buf.now self.old.at (word.now ++ dec n) self.new.buf.now self.new.at }
     {
         self.bytes(word);
         self.decimal(n);

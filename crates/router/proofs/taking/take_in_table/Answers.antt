@@ -48,8 +48,8 @@ pub write_slot-requires : goal.write_slot-requires
 write_slot-requires c =
     slot_fits c.requires _ (slot_in _ _ _ _ _ c.in_ok-berth.ensures refl c.requires.board)
 
-pub overflow_add-serial : goal.overflow_add-serial
-overflow_add-serial c =
+pub overflow_add-next : goal.overflow_add-next
+overflow_add-next c =
     omega (arith, (welcome _ _ _ _ _ c.in_ok-berth.ensures refl).more)
 
 pub overflow_cast-result : goal.overflow_cast-result
